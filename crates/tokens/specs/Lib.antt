@@ -1,0 +1,4 @@
+pub mod Units
+pub mod Refusals
+pub mod Buckets
+pub mod Meters

@@ -1,0 +1,9 @@
+// Token buckets and single-rate meters, counted in grains, a millionth of a token. Nothing here allocates.
+pub mod bucket;
+mod checks;
+pub mod counting;
+pub mod deficit;
+pub mod meter;
+pub mod refusal;
+pub mod token_bucket;
+pub mod units;
