@@ -1,47 +1,42 @@
 // The continuous token bucket: a meter that stores its level.
 ghost use mathlib.Core.Path.{_≡_};
 ghost use Prim.Native.Nat.{_+_, _-_, _*_, _≤_, min};
-ghost use Rattle.tokens.specs.Units.{grains as inGrains, day-end, highest-rate, largest-burst};
-use crate::checks::check_limits;
+ghost use Rattle.tokens.specs.Units.{grains as inGrains, day-end};
 use crate::checks::check_moment;
 use crate::checks::check_packet;
-use crate::checks::gained;
+use crate::limits::Limits;
 use crate::meter::Meter;
 use crate::refusal::Refusal;
 use crate::units::grains;
-use crate::units::GRAINS_PER_TOKEN;
 
 #[derive(Clone, Copy)]
 pub struct TokenBucket {
-    rate: u64,
-    burst: u64,
+    limits: Limits,
     latest: u64,
     level: u64,
-    ghost some_rate: { 1 ≤ rate },
-    ghost rate_bound: { rate ≤ highest-rate },
-    ghost some_burst: { 1 ≤ burst },
-    ghost burst_bound: { burst ≤ largest-burst },
     ghost latest_bound: { latest ≤ day-end },
-    ghost level_bound: { level ≤ inGrains burst },
+    ghost level_bound: { level ≤ inGrains (limits .burst) },
 }
 
 impl TokenBucket {
+    // The level at a moment that is not before the latest one.
     fn level_at(&self, moment: u64) -> u64
         requires later { ⌜ now self .latest ≤ moment ⌝ }
         requires day { ⌜ moment ≤ day-end ⌝ }
-        ensures { λ r. ⌜ r ≡ min (inGrains (now (self .entry) .burst)) (now (self .entry) .level + now (self .entry) .rate * (moment - now (self .entry) .latest)) ⌝ }
+        ensures { λ r. ⌜ r ≡ min (inGrains (now (self .entry) .limits .burst)) (now (self .entry) .level + now (self .entry) .limits .rate * (moment - now (self .entry) .latest)) ⌝ }
     {
-        let grown = self.level + gained(self.rate, moment - self.latest);
-        grown.min(GRAINS_PER_TOKEN * self.burst)
+        let grown = self.level + self.limits.gained(moment - self.latest);
+        grown.min(self.limits.full())
     }
 }
 
 pub impl Meter for TokenBucket as TokenBucketForm {
-    ghost meaning = { λ m. record { rate = m .rate; burst = m .burst; latest = m .latest; level = m .level } };
+    ghost meaning = { λ m. record { rate = m .limits .rate; burst = m .limits .burst; latest = m .latest; level = m .level } };
 
     fn new(rate: u64, burst: u64) -> Result<Self, Refusal> {
-        check_limits(rate, burst)?;
-        Ok(TokenBucket { rate, burst, latest: 0, level: GRAINS_PER_TOKEN * burst })
+        let limits = Limits::new(rate, burst)?;
+        let level = limits.full();
+        Ok(TokenBucket { limits, latest: 0, level })
     }
 
     fn question(&self, tokens: u32, moment: u64) -> Result<bool, Refusal> {

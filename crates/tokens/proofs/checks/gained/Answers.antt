@@ -1,6 +1,0 @@
-use mathlib.Core.Path.{refl}
-use Rattle.tokens.proofs.Products.{day-of-grains}
-use Rattle.tokens.proofs.checks.gained.Needs as need
-
-pub returns : need.returns
-returns c = record { value = refl; bound = day-of-grains (c .pre .rate) (c .pre .time) }
