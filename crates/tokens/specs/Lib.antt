@@ -2,3 +2,4 @@ pub mod Units
 pub mod Refusals
 pub mod Buckets
 pub mod Meters
+pub mod Histories

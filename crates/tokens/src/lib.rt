@@ -1,5 +1,6 @@
 // Token buckets and single-rate meters, counted in grains, a millionth of a token. Nothing here allocates.
 pub mod bucket;
+pub mod calls;
 mod checks;
 pub mod counting;
 pub mod deficit;

@@ -1,0 +1,81 @@
+// Lists of calls upon meters, and the law above the single calls: the form of a meter does not matter.
+ghost use mathlib.Core.Bool.{true};
+ghost use mathlib.Core.Path.{_≡_};
+ghost use Rattle.std.specs.Orderings.{Decides};
+ghost use Rattle.std.specs.Results.{isErr};
+ghost use Rattle.tokens.specs.Histories.{Kept, Answer-alike, Meter-figure, figure-calls};
+ghost use Rattle.tokens.specs.Meters.{new-causes};
+ghost use Rattle.tokens.specs.Refusals.{told, unless-refused};
+use crate::meter::Meter;
+use crate::refusal::Refusal;
+use crate::refusal::RefusalPartialEq;
+
+#[derive(Clone, Copy)]
+pub enum Call {
+    Question { tokens: u32, moment: u64 },
+    Charge { tokens: u32, moment: u64 },
+    Wait { moment: u64 },
+}
+
+#[derive(Clone, Copy, PartialEq, Eq, Debug)]
+pub enum Answer {
+    Yes,
+    No,
+    Moved,
+}
+
+/// Puts one call to a meter.
+pub fn put<M: Meter>(meter: &mut M, call: Call) -> Result<Answer, Refusal>
+    ensures kept { λ r. ⌜ Kept (M·Meter .meaning (now (meter .entry))) call (told r) (M·Meter .meaning (now (meter .exit))) ⌝ }
+    ensures refused { λ r. ⌜ (isErr r ≡ true → now (meter .exit) ≡ now (meter .entry)) ⌝ }
+{
+    let passes = match call {
+        Call::Question { tokens, moment } => meter.question(tokens, moment)?,
+        Call::Charge { tokens, moment } => meter.charge(tokens, moment)?,
+        Call::Wait { moment } => {
+            meter.wait(moment)?;
+            return Ok(Answer::Moved);
+        }
+    };
+    Ok(if passes { Answer::Yes } else { Answer::No })
+}
+
+// Whether two calls told the same.
+fn same(a: Result<Answer, Refusal>, b: Result<Answer, Refusal>) -> bool
+    ensures { λ r. ⌜ Decides r (told a ≡ told b) ⌝ }
+{
+    match (a, b) {
+        (Ok(x), Ok(y)) => x == y,
+        (Err(x), Err(y)) => x.number() == y.number(),
+        _ => false,
+    }
+}
+
+/// Puts the same calls to a new meter of each of two forms, and answers whether they told the same throughout.
+/// They always do: that is the law.
+pub fn alike<M: Meter, N: Meter>(rate: u64, burst: u64, calls: &[Call]) -> Result<bool, Refusal>
+    ensures value { λ r. ⌜ told r ≡ unless-refused (new-causes rate burst) true ⌝ }
+    ensures law { λ _. ⌜ Answer-alike (M·Meter .meaning) (N·Meter .meaning) ⌝ }
+{
+    let mut m = M::new(rate, burst)?;
+    let mut n = N::new(rate, burst)?;
+    for call in calls {
+        if !same(put(&mut m, *call), put(&mut n, *call)) {
+            return Ok(false);
+        }
+    }
+    Ok(true)
+}
+
+/// The worked figure, to be put to a meter of rate 1,000 and burst 1,500: yes, no, yes, no.
+pub fn worked_figure() -> [Call; 4]
+    ensures calls { λ r. ⌜ r ≡ figure-calls ⌝ }
+    ensures answers { λ _. ⌜ Meter-figure ⌝ }
+{
+    [
+        Call::Charge { tokens: 1500, moment: 0 },
+        Call::Charge { tokens: 1, moment: 999 },
+        Call::Charge { tokens: 1, moment: 1000 },
+        Call::Charge { tokens: 1501, moment: 3_600_000_000 },
+    ]
+}
