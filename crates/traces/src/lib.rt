@@ -1,0 +1,2 @@
+// A packet trace against one rate and burst.
+pub mod bytes;
