@@ -76,3 +76,21 @@ module _ (text : List ℕ) (n i : ℕ) (within : i < length text) where
 
   pub digit-lacks : is-digit (getD text i 0) ≡ false → digits-after n (drop i text) ≡ None
   digit-lacks other = rw (drop-at text i within) (rw other)
+
+-- the first line of a text that is not empty, and the lines after it
+pub lines-cut : (text : List ℕ) → 0 < length text → lines text ≡ before 10 text ∷ lines (beyond 10 text)
+lines-cut [] some = absurd (omega arith)
+lines-cut (c ∷ []) some = elim (eqb c 10) as (λ e. cond e ([] ∷ []) ((c ∷ []) ∷ []) ≡ cond e [] (c ∷ []) ∷ lines (cond e [] [])) [ true ↦ refl | false ↦ refl ]
+lines-cut (c ∷ d ∷ cs) some =
+    let rest = lines-cut (d ∷ cs) (omega arith) in
+    elim (eqb c 10) as (λ e. cond e ([] ∷ lines (d ∷ cs)) (onto-first c (lines (d ∷ cs))) ≡ cond e [] (c ∷ before 10 (d ∷ cs)) ∷ lines (cond e (d ∷ cs) (beyond 10 (d ∷ cs)))) [
+      true ↦ refl
+    | false ↦ ap (onto-first c) rest
+    ]
+
+pub beyond-shorter : (separator : ℕ) (text : List ℕ) → 0 < length text → length (beyond separator text) < length text
+beyond-shorter separator [] some = absurd (omega arith)
+beyond-shorter separator (c ∷ []) some = elim (eqb c separator) as (λ e. length (cond {A = List ℕ} e [] []) < length (c ∷ [])) [ true ↦ omega arith | false ↦ omega arith ]
+beyond-shorter separator (c ∷ d ∷ cs) some =
+    let rest = beyond-shorter separator (d ∷ cs) (omega arith) in
+    elim (eqb c separator) as (λ e. length (cond e (d ∷ cs) (beyond separator (d ∷ cs))) < length (c ∷ d ∷ cs)) [ true ↦ omega arith | false ↦ omega arith ]

@@ -1,2 +1,5 @@
 // A packet trace against one rate and burst.
 pub mod bytes;
+pub mod packet;
+pub mod report;
+pub mod tally;
