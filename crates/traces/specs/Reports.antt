@@ -55,6 +55,9 @@ pub record Run : Type 0 where
   pub meter : Metered
   pub tally : Tally
 
+abbrev pub run : Metered → Tally → Run
+run m t = record { meter = m; tally = t }
+
 -- a line of the trace either lets the run go on or ends it
 pub data Next : Type 0 where
   goes-on : Run → Next
@@ -65,12 +68,17 @@ pub record Lined : Type 0 where
   pub text : List ℕ
   pub next : Next
 
+-- what comes next, by what a line's call left and answered
+abbrev pub next-by : Option Ending → Run → Next
+next-by None r = goes-on r
+next-by (Some e) r = ends e
+
 -- the line `number` of the trace, a packet, by what its charge told
 abbrev pub charged-line : ℕ → Run → Packet → Told Bool → Lined
 charged-line number r p (answered passes) =
     record {
       text = packet-line number p passes;
-      next = goes-on (record { meter = charged (r .meter) (p .tokens) (p .moment); tally = counted (r .tally) (p .tokens) passes });
+      next = goes-on (run (charged (r .meter) (p .tokens) (p .moment)) (counted (r .tally) (p .tokens) passes));
     }
 charged-line number r p (refused refusal) = record { text = fault-line number refusal; next = ends Fault }
 
@@ -100,7 +108,7 @@ reported r (l ∷ ls) = after-text (lined r l .text) (continued (lined r l .next
 
 -- from the start: a rate or burst that no meter takes is a fault at line 0
 abbrev pub started : Told Metered → List (List ℕ) → Outcome
-started (answered m) ls = reported (record { meter = m; tally = none-yet }) ls
+started (answered m) ls = reported (run m none-yet) ls
 started (refused refusal) ls = record { text = fault-line 0 refusal; ending = Fault }
 
 abbrev pub report-of : ℕ → ℕ → List ℕ → Outcome

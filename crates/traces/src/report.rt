@@ -1,11 +1,18 @@
 // The report on a trace.
 ghost use mathlib.Core.Path.{_≡_};
 ghost use mathlib.Core.List.{_++_};
+ghost use Prim.Native.Nat.{_+_, _<_, _≤_, _^_};
 ghost use Rattle.std.specs.Of.String.{string-bytes};
 ghost use Rattle.std.specs.Vec.{made};
-ghost use Rattle.traces.specs.Reports.{packet-line, fault-line, last-line};
+ghost use Rattle.traces.specs.Bytes.{lines};
+ghost use Rattle.traces.specs.Reports.{Consistent, packet-line, fault-line, last-line, next-by, run, lined, after-text, reported, none-yet, report-of};
+use crate::bytes::cut;
+use crate::packet::read_packet;
 use crate::packet::Packet;
 use crate::tally::Tally;
+use tokens::meter::Meter;
+use tokens::refusal::Refusal;
+use std::alloc::Global;
 use std::fmt;
 use std::fmt::Write;
 
@@ -53,4 +60,69 @@ fn write_last(out: &mut String, tally: &Tally) -> Result<(), OutOfMemory>
     let tokens = tally.tokens;
     writeln!(out, "passed {passed} of {packets} packets, {passed_tokens} of {tokens} tokens")?;
     Ok(())
+}
+
+// Charges the packet of one line; answers how the run ends there, if it does.
+fn charge_line<M: Meter>(meter: &mut M, tally: &mut Tally, line: &[u8], out: &mut String) -> Result<Option<Ending>, OutOfMemory>
+    requires consistent { ⌜ Consistent (now tally) ⌝ }
+    requires room { ⌜ now tally .packets + 1 < 2 ^ 64 ⌝ }
+    ensures text { λ r. ⌜ made r (λ _. string-bytes (now (out .exit)) ≡ string-bytes (now (out .entry)) ++ lined (run (M·Meter .meaning (now (meter .entry))) (now (tally .entry))) (now (line .entry)) .text) ⌝ }
+    ensures next { λ r. ⌜ made r (λ e. next-by e (run (M·Meter .meaning (now (meter .exit))) (now (tally .exit))) ≡ lined (run (M·Meter .meaning (now (meter .entry))) (now (tally .entry))) (now (line .entry)) .next) ⌝ }
+    ensures consistent { λ _. ⌜ Consistent (now (tally .exit)) ⌝ }
+    ensures bound { λ _. ⌜ now (tally .exit) .packets ≤ now (tally .entry) .packets + 1 ⌝ }
+{
+    let number = tally.packets + 1;
+    let Some(packet) = read_packet(line) else {
+        return Ok(Some(Ending::NotTwoNumbers(number)));
+    };
+    match meter.charge(packet.tokens, packet.moment) {
+        Ok(passes) => {
+            tally.count(packet.tokens, passes);
+            write_packet(out, number, packet, passes)?;
+            Ok(None)
+        }
+        Err(refusal) => {
+            write_fault(out, number, refusal.number())?;
+            Ok(Some(Ending::Fault))
+        }
+    }
+}
+
+// Charges line after line, and closes a complete run with its last line.
+fn charge_lines<M: Meter>(mut meter: M, trace: &[u8], out: &mut String) -> Result<Ending, OutOfMemory>
+    ensures { λ r. ⌜ made r (λ e. record { text = string-bytes (now (out .exit)); ending = e } ≡ after-text (string-bytes (now (out .entry))) (reported (run (M·Meter .meaning meter) none-yet) (lines (now (trace .entry))))) ⌝ }
+{
+    let mut tally = Tally::new();
+    let mut rest = trace;
+    while !rest.is_empty() {
+        let (line, more) = cut(rest, b'\n');
+        if let Some(ending) = charge_line(&mut meter, &mut tally, line, out)? {
+            return Ok(ending);
+        }
+        rest = more;
+    }
+    write_last(out, &tally)?;
+    Ok(Ending::Complete)
+}
+
+/// The text that `conform` prints, and how the run ends.
+#[derive(Drop)]
+pub struct Report {
+    pub text: String,
+    pub ending: Ending,
+}
+
+/// Charges the packets of a trace to a new meter, each at its moment, and says which of them pass.
+pub fn conform<M: Meter>(heap: Global, rate: u64, burst: u64, trace: &[u8]) -> Result<Report, OutOfMemory>
+    ensures { λ r. ⌜ made r (λ o. record { text = string-bytes (o .text); ending = o .ending } ≡ report-of rate burst (now (trace .entry))) ⌝ }
+{
+    let mut text = String::new(heap);
+    let ending = match M::new(rate, burst) {
+        Ok(meter) => charge_lines(meter, trace, &mut text)?,
+        Err(refusal) => {
+            write_fault(&mut text, 0, refusal.number())?;
+            Ending::Fault
+        }
+    };
+    Ok(Report { text, ending })
 }
