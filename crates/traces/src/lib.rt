@@ -1,4 +1,5 @@
 // A packet trace against one rate and burst.
+pub mod arguments;
 pub mod bytes;
 pub mod packet;
 pub mod report;

@@ -6,12 +6,16 @@ ghost use Rattle.std.specs.Of.String.{string-bytes};
 ghost use Rattle.std.specs.Vec.{made};
 ghost use Rattle.traces.specs.Bytes.{lines};
 ghost use Rattle.traces.specs.Reports.{Consistent, packet-line, fault-line, last-line, next-by, run, lined, after-text, reported, none-yet, report-of};
+use crate::arguments::Arguments;
+use crate::arguments::Form;
 use crate::bytes::cut;
 use crate::packet::read_packet;
 use crate::packet::Packet;
 use crate::tally::Tally;
 use tokens::meter::Meter;
-use tokens::refusal::Refusal;
+use tokens::leaky_bucket::LeakyBucketForm;
+use tokens::token_bucket::TokenBucketForm;
+use tokens::virtual_scheduling::VirtualSchedulingForm;
 use std::alloc::Global;
 use std::fmt;
 use std::fmt::Write;
@@ -112,8 +116,8 @@ pub struct Report {
     pub ending: Ending,
 }
 
-/// Charges the packets of a trace to a new meter, each at its moment, and says which of them pass.
-pub fn conform<M: Meter>(heap: Global, rate: u64, burst: u64, trace: &[u8]) -> Result<Report, OutOfMemory>
+// Charges the packets of a trace to a new meter, each at its moment, and says which of them pass.
+fn charge_trace<M: Meter>(heap: Global, rate: u64, burst: u64, trace: &[u8]) -> Result<Report, OutOfMemory>
     ensures { λ r. ⌜ made r (λ o. record { text = string-bytes (o .text); ending = o .ending } ≡ report-of rate burst (now (trace .entry))) ⌝ }
 {
     let mut text = String::new(heap);
@@ -125,4 +129,16 @@ pub fn conform<M: Meter>(heap: Global, rate: u64, burst: u64, trace: &[u8]) -> R
         }
     };
     Ok(Report { text, ending })
+}
+
+/// Charges the packets of a trace to a new meter, each at its moment, and says which of them pass. The report does
+/// not depend on the form.
+pub fn conform(heap: Global, settings: Arguments, trace: &[u8]) -> Result<Report, OutOfMemory>
+    ensures { λ r. ⌜ made r (λ o. record { text = string-bytes (o .text); ending = o .ending } ≡ report-of (settings .rate) (settings .burst) (now (trace .entry))) ⌝ }
+{
+    match settings.form {
+        Form::Token => charge_trace::<TokenBucketForm>(heap, settings.rate, settings.burst, trace),
+        Form::Schedule => charge_trace::<VirtualSchedulingForm>(heap, settings.rate, settings.burst, trace),
+        Form::Leaky => charge_trace::<LeakyBucketForm>(heap, settings.rate, settings.burst, trace),
+    }
 }
