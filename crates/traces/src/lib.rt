@@ -2,5 +2,6 @@
 pub mod arguments;
 pub mod bytes;
 pub mod packet;
+pub mod program;
 pub mod report;
 pub mod tally;

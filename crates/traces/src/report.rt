@@ -17,6 +17,7 @@ use tokens::leaky_bucket::LeakyBucketForm;
 use tokens::token_bucket::TokenBucketForm;
 use tokens::virtual_scheduling::VirtualSchedulingForm;
 use std::alloc::Global;
+use std::error::Error;
 use std::fmt;
 use std::fmt::Write;
 
@@ -37,6 +38,14 @@ pub impl From<fmt::Error> for OutOfMemory as OutOfMemoryFromFmt {
         OutOfMemory
     }
 }
+
+pub impl fmt::Display for OutOfMemory as OutOfMemoryDisplay {
+    fn fmt<W: fmt::Write>(&self, f: &mut fmt::Formatter<W>) -> fmt::Result {
+        write!(f, "out of memory")
+    }
+}
+
+pub impl Error for OutOfMemory as OutOfMemoryError {}
 
 fn write_packet(out: &mut String, number: u64, packet: Packet, passes: bool) -> Result<(), OutOfMemory>
     ensures { λ r. ⌜ made r (λ _. string-bytes (now (out .exit)) ≡ string-bytes (now (out .entry)) ++ packet-line number packet passes) ⌝ }
