@@ -1,2 +1,3 @@
-pub mod Products
+pub mod Bounds
 pub mod Forms
+pub mod Products

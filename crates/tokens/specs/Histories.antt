@@ -1,10 +1,12 @@
 -- Lists of calls upon a meter, and what holds of them whatever the form of the meter. Assumes nothing.
-use Prim.Native.Nat.{ℕ}
+use Prim.Native.Nat.{ℕ, _+_, _-_, _*_, _≤_, _<_}
 use mathlib.Core.Bool.{Bool, cond}
 use mathlib.Core.List.{List, [], _∷_, map}
 use mathlib.Core.Path.{_≡_}
+use Rattle.std.specs.shelf.Lists.{All}
 use Rattle.tokens.specs.Meters.{Metered, fresh, packet-told, wait-told, charged, waited}
 use Rattle.tokens.specs.Refusals.{Told, answered, refused}
+use Rattle.tokens.specs.Units.{grains}
 use Rattle.tokens.specs.declared.calls.Answer.{Answer}
 use Rattle.tokens.specs.declared.calls.Answer.the-variants.{Yes, No, Moved}
 use Rattle.tokens.specs.declared.calls.Call.{Call}
@@ -36,16 +38,56 @@ pub record Event : Type 0 where
   pub call : Call
   pub told : Told Answer
 
--- the events are a history of the meter: one after the other, each call keeps its promise
-abbrev pub History : {M : Type 0} → (M → Metered) → M → List Event → Type 0
-History meaning m [] = Unit {0}
-History {M} meaning m (e ∷ es) = (left : M) × Kept (meaning m) (e .call) (e .told) (meaning left) × History meaning left es
+-- the events led from one state of a meter to another: one after the other, each call kept its promise
+abbrev pub History : {M : Type 0} → (M → Metered) → M → List Event → M → Type 0
+History meaning first [] last = meaning last ≡ meaning first
+History {M} meaning first (e ∷ es) last =
+    (left : M) × Kept (meaning first) (e .call) (e .told) (meaning left) × History meaning left es last
+
+-- the tokens of the charges that passed
+abbrev pub charge-of : Call → ℕ
+charge-of (Question tokens moment) = 0
+charge-of (Charge tokens moment) = tokens
+charge-of (Wait moment) = 0
+
+abbrev pub if-yes : Told Answer → ℕ → ℕ
+if-yes (answered Yes) tokens = tokens
+if-yes (answered No) tokens = 0
+if-yes (answered Moved) tokens = 0
+if-yes (refused number) tokens = 0
+
+abbrev pub passed : List Event → ℕ
+passed [] = 0
+passed (e ∷ es) = if-yes (e .told) (charge-of (e .call)) + passed es
+
+-- what a meter is for: between any two states of it, in grains, what passed is at most the level at the first and
+-- what the rate brings in the time between
+abbrev pub Passed-within-level-and-rate : {M : Type 0} → (M → Metered) → Type 0
+Passed-within-level-and-rate {M} meaning =
+    (first last : M) (es : List Event) → History meaning first es last →
+    grains (passed es) ≤ meaning first .level + meaning first .rate * (meaning last .latest - meaning first .latest)
+
+-- the tokens that a call asks for, if any
+abbrev pub tokens-of : Call → ℕ
+tokens-of (Question tokens moment) = tokens
+tokens-of (Charge tokens moment) = tokens
+tokens-of (Wait moment) = 0
+
+-- a packet larger than the burst never passes, however long the pause before it
+abbrev pub Larger-than-burst-never-passes : {M : Type 0} → (M → Metered) → Type 0
+Larger-than-burst-never-passes {M} meaning =
+    (first last : M) (es : List Event) → History meaning first es last →
+    All (λ e. meaning first .burst < tokens-of (e .call) → e .told ≡ answered Yes → ⊥) es
+
+pub record Keeps-to-limits {M : Type 0} (meaning : M → Metered) : Type 0 where
+  pub passed-within-level-and-rate : Passed-within-level-and-rate meaning
+  pub larger-than-burst-never-passes : Larger-than-burst-never-passes meaning
 
 -- meters of two forms, new at the same rate and burst and given the same calls, answer alike throughout
 abbrev pub Answer-alike : {M N : Type 0} → (M → Metered) → (N → Metered) → Type 0
 Answer-alike {M} {N} M-meaning N-meaning =
-    (rate burst : ℕ) (m : M) (n : N) → M-meaning m ≡ fresh rate burst → N-meaning n ≡ fresh rate burst →
-    (xs ys : List Event) → History M-meaning m xs → History N-meaning n ys →
+    (rate burst : ℕ) (m m-last : M) (n n-last : N) → M-meaning m ≡ fresh rate burst → N-meaning n ≡ fresh rate burst →
+    (xs ys : List Event) → History M-meaning m xs m-last → History N-meaning n ys n-last →
     map (λ e. e .call) xs ≡ map (λ e. e .call) ys → map (λ e. e .told) xs ≡ map (λ e. e .told) ys
 
 -- what a list of calls tells, one after the other

@@ -3,7 +3,7 @@ ghost use mathlib.Core.Bool.{true};
 ghost use mathlib.Core.Path.{_≡_};
 ghost use Rattle.std.specs.Orderings.{Decides};
 ghost use Rattle.std.specs.Results.{isErr};
-ghost use Rattle.tokens.specs.Histories.{Kept, Answer-alike, Meter-figure, figure-calls};
+ghost use Rattle.tokens.specs.Histories.{Kept, Keeps-to-limits, Answer-alike, Meter-figure, figure-calls};
 ghost use Rattle.tokens.specs.Meters.{new-causes};
 ghost use Rattle.tokens.specs.Refusals.{told, unless-refused};
 use crate::meter::Meter;
@@ -52,10 +52,11 @@ fn same(a: Result<Answer, Refusal>, b: Result<Answer, Refusal>) -> bool
 }
 
 /// Puts the same calls to a new meter of each of two forms, and answers whether they told the same throughout.
-/// They always do: that is the law.
+/// They always do: that is the law. And in every history of calls a meter keeps to its limits.
 pub fn alike<M: Meter, N: Meter>(rate: u64, burst: u64, calls: &[Call]) -> Result<bool, Refusal>
     ensures value { λ r. ⌜ told r ≡ unless-refused (new-causes rate burst) true ⌝ }
     ensures law { λ _. ⌜ Answer-alike (M·Meter .meaning) (N·Meter .meaning) ⌝ }
+    ensures limits { λ _. ⌜ Keeps-to-limits (M·Meter .meaning) ⌝ }
 {
     let mut m = M::new(rate, burst)?;
     let mut n = N::new(rate, burst)?;
@@ -73,9 +74,21 @@ pub fn worked_figure() -> [Call; 4]
     ensures answers { λ _. ⌜ Meter-figure ⌝ }
 {
     [
-        Call::Charge { tokens: 1500, moment: 0 },
-        Call::Charge { tokens: 1, moment: 999 },
-        Call::Charge { tokens: 1, moment: 1000 },
-        Call::Charge { tokens: 1501, moment: 3_600_000_000 },
+        Call::Charge {
+            tokens: 1500,
+            moment: 0,
+        },
+        Call::Charge {
+            tokens: 1,
+            moment: 999,
+        },
+        Call::Charge {
+            tokens: 1,
+            moment: 1000,
+        },
+        Call::Charge {
+            tokens: 1501,
+            moment: 3_600_000_000,
+        },
     ]
 }

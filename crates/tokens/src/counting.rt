@@ -19,7 +19,10 @@ pub impl Bucket for CountingBucket as CountingKind {
 
     fn make(tokens: u32) -> Self {
         let volume = grains(tokens);
-        CountingBucket { volume, count: volume }
+        CountingBucket {
+            volume,
+            count: volume,
+        }
     }
 
     fn volume(&self) -> u64 {

@@ -18,7 +18,10 @@ pub impl Bucket for DeficitBucket as DeficitKind {
     ghost count = { λ b. b .volume - b .deficit };
 
     fn make(tokens: u32) -> Self {
-        DeficitBucket { volume: grains(tokens), deficit: 0 }
+        DeficitBucket {
+            volume: grains(tokens),
+            deficit: 0,
+        }
     }
 
     fn volume(&self) -> u64 {

@@ -35,7 +35,11 @@ pub impl Meter for LeakyBucket as LeakyBucketForm {
 
     fn new(rate: u64, burst: u64) -> Result<Self, Refusal> {
         let limits = Limits::new(rate, burst)?;
-        Ok(LeakyBucket { limits, latest: 0, backlog: 0 })
+        Ok(LeakyBucket {
+            limits,
+            latest: 0,
+            backlog: 0,
+        })
     }
 
     fn question(&self, tokens: u32, moment: u64) -> Result<bool, Refusal> {

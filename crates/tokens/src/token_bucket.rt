@@ -36,7 +36,11 @@ pub impl Meter for TokenBucket as TokenBucketForm {
     fn new(rate: u64, burst: u64) -> Result<Self, Refusal> {
         let limits = Limits::new(rate, burst)?;
         let level = limits.full();
-        Ok(TokenBucket { limits, latest: 0, level })
+        Ok(TokenBucket {
+            limits,
+            latest: 0,
+            level,
+        })
     }
 
     fn question(&self, tokens: u32, moment: u64) -> Result<bool, Refusal> {

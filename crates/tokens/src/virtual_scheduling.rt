@@ -37,7 +37,11 @@ pub impl Meter for VirtualScheduling as VirtualSchedulingForm {
 
     fn new(rate: u64, burst: u64) -> Result<Self, Refusal> {
         let limits = Limits::new(rate, burst)?;
-        Ok(VirtualScheduling { limits, latest: 0, due: 0 })
+        Ok(VirtualScheduling {
+            limits,
+            latest: 0,
+            due: 0,
+        })
     }
 
     fn question(&self, tokens: u32, moment: u64) -> Result<bool, Refusal> {

@@ -24,8 +24,8 @@ pub capped-alike : (cs : List ℕ) (a b : ℕ) → capped a ≡ capped b → map
 capped-alike [] a b same = ap Some same
 capped-alike (c ∷ cs) a b same =
     elim (is-digit c) as (λ d. mapped capped (cond d (digits-after (10 * a + (c - 48)) cs) None) ≡ mapped capped (cond d (digits-after (10 * b + (c - 48)) cs) None)) [
-      true ↦ capped-alike cs (10 * a + (c - 48)) (10 * b + (c - 48)) (omega arith)
-    | false ↦ refl
+      | true ↦ capped-alike cs (10 * a + (c - 48)) (10 * b + (c - 48)) (omega arith)
+      | false ↦ refl
     ]
 
 -- no separator stands among the first `i` bytes, so they belong to the front
@@ -84,8 +84,8 @@ lines-cut (c ∷ []) some = elim (eqb c 10) as (λ e. cond e ([] ∷ []) ((c ∷
 lines-cut (c ∷ d ∷ cs) some =
     let rest = lines-cut (d ∷ cs) (omega arith) in
     elim (eqb c 10) as (λ e. cond e ([] ∷ lines (d ∷ cs)) (onto-first c (lines (d ∷ cs))) ≡ cond e [] (c ∷ before 10 (d ∷ cs)) ∷ lines (cond e (d ∷ cs) (beyond 10 (d ∷ cs)))) [
-      true ↦ refl
-    | false ↦ ap (onto-first c) rest
+      | true ↦ refl
+      | false ↦ ap (onto-first c) rest
     ]
 
 pub beyond-shorter : (separator : ℕ) (text : List ℕ) → 0 < length text → length (beyond separator text) < length text

@@ -21,5 +21,8 @@ pub fn read_packet(line: &[u8]) -> Option<Packet>
     if tokens > u32::MAX as u64 {
         return None;
     }
-    Some(Packet { tokens: tokens as u32, moment })
+    Some(Packet {
+        tokens: tokens as u32,
+        moment,
+    })
 }

@@ -1,10 +1,10 @@
 // The program `conform`: reads, calls, writes. What it prints is the library's report.
-use crate::arguments::read_arguments;
 use crate::arguments::Arguments;
 use crate::arguments::Misuse;
-use crate::report::conform;
+use crate::arguments::read_arguments;
 use crate::report::Ending;
 use crate::report::OutOfMemoryError;
+use crate::report::conform;
 use std::env;
 use std::error::AnyError;
 use std::io::Read;
@@ -36,7 +36,10 @@ fn print_report(rt: &LibcRuntime) -> Result<(), AnyError> {
     match report.ending {
         Ending::Complete | Ending::Fault => Ok(()),
         Ending::NotTwoNumbers(line) => {
-            Err(format!(rt.alloc(), "line {line} is not two numbers, TOKENS up to 4294967295 and MOMENT, with one space between")?.into())
+            Err(format!(
+                rt.alloc(),
+                "line {line} is not two numbers, TOKENS up to 4294967295 and MOMENT, with one space between"
+            )?.into())
         }
     }
 }

@@ -9,17 +9,17 @@ ghost use Rattle.traces.specs.Reports.{Consistent, packet-line, fault-line, la
 use crate::arguments::Arguments;
 use crate::arguments::Form;
 use crate::bytes::cut;
-use crate::packet::read_packet;
 use crate::packet::Packet;
+use crate::packet::read_packet;
 use crate::tally::Tally;
-use tokens::meter::Meter;
-use tokens::leaky_bucket::LeakyBucketForm;
-use tokens::token_bucket::TokenBucketForm;
-use tokens::virtual_scheduling::VirtualSchedulingForm;
 use std::alloc::Global;
 use std::error::Error;
 use std::fmt;
 use std::fmt::Write;
+use tokens::leaky_bucket::LeakyBucketForm;
+use tokens::meter::Meter;
+use tokens::token_bucket::TokenBucketForm;
+use tokens::virtual_scheduling::VirtualSchedulingForm;
 
 /// How a run ends: after the last packet, at a refusal, or at a line (counted from 1) that is no packet.
 #[derive(Clone, Copy)]
@@ -47,7 +47,12 @@ pub impl fmt::Display for OutOfMemory as OutOfMemoryDisplay {
 
 pub impl Error for OutOfMemory as OutOfMemoryError {}
 
-fn write_packet(out: &mut String, number: u64, packet: Packet, passes: bool) -> Result<(), OutOfMemory>
+fn write_packet(
+    out: &mut String,
+    number: u64,
+    packet: Packet,
+    passes: bool,
+) -> Result<(), OutOfMemory>
     ensures { λ r. ⌜ made r (λ _. string-bytes (now (out .exit)) ≡ string-bytes (now (out .entry)) ++ packet-line number packet passes) ⌝ }
 {
     let tokens = packet.tokens;
@@ -71,12 +76,20 @@ fn write_last(out: &mut String, tally: &Tally) -> Result<(), OutOfMemory>
     let packets = tally.packets;
     let passed_tokens = tally.passed_tokens;
     let tokens = tally.tokens;
-    writeln!(out, "passed {passed} of {packets} packets, {passed_tokens} of {tokens} tokens")?;
+    writeln!(
+        out,
+        "passed {passed} of {packets} packets, {passed_tokens} of {tokens} tokens"
+    )?;
     Ok(())
 }
 
 // Charges the packet of one line; answers how the run ends there, if it does.
-fn charge_line<M: Meter>(meter: &mut M, tally: &mut Tally, line: &[u8], out: &mut String) -> Result<Option<Ending>, OutOfMemory>
+fn charge_line<M: Meter>(
+    meter: &mut M,
+    tally: &mut Tally,
+    line: &[u8],
+    out: &mut String,
+) -> Result<Option<Ending>, OutOfMemory>
     requires consistent { ⌜ Consistent (now tally) ⌝ }
     requires room { ⌜ now tally .packets + 1 < 2 ^ 64 ⌝ }
     ensures text { λ r. ⌜ made r (λ _. string-bytes (now (out .exit)) ≡ string-bytes (now (out .entry)) ++ lined (run (M·Meter .meaning (now (meter .entry))) (now (tally .entry))) (now (line .entry)) .text) ⌝ }
@@ -102,7 +115,11 @@ fn charge_line<M: Meter>(meter: &mut M, tally: &mut Tally, line: &[u8], out: &mu
 }
 
 // Charges line after line, and closes a complete run with its last line.
-fn charge_lines<M: Meter>(mut meter: M, trace: &[u8], out: &mut String) -> Result<Ending, OutOfMemory>
+fn charge_lines<M: Meter>(
+    mut meter: M,
+    trace: &[u8],
+    out: &mut String,
+) -> Result<Ending, OutOfMemory>
     ensures { λ r. ⌜ made r (λ e. record { text = string-bytes (now (out .exit)); ending = e } ≡ after-text (string-bytes (now (out .entry))) (reported (run (M·Meter .meaning meter) none-yet) (lines (now (trace .entry))))) ⌝ }
 {
     let mut tally = Tally::new();
@@ -126,7 +143,12 @@ pub struct Report {
 }
 
 // Charges the packets of a trace to a new meter, each at its moment, and says which of them pass.
-fn charge_trace<M: Meter>(heap: Global, rate: u64, burst: u64, trace: &[u8]) -> Result<Report, OutOfMemory>
+fn charge_trace<M: Meter>(
+    heap: Global,
+    rate: u64,
+    burst: u64,
+    trace: &[u8],
+) -> Result<Report, OutOfMemory>
     ensures { λ r. ⌜ made r (λ o. record { text = string-bytes (o .text); ending = o .ending } ≡ report-of rate burst (now (trace .entry))) ⌝ }
 {
     let mut text = String::new(heap);
@@ -147,7 +169,12 @@ pub fn conform(heap: Global, settings: Arguments, trace: &[u8]) -> Result<Report
 {
     match settings.form {
         Form::Token => charge_trace::<TokenBucketForm>(heap, settings.rate, settings.burst, trace),
-        Form::Schedule => charge_trace::<VirtualSchedulingForm>(heap, settings.rate, settings.burst, trace),
+        Form::Schedule => charge_trace::<VirtualSchedulingForm>(
+            heap,
+            settings.rate,
+            settings.burst,
+            trace,
+        ),
         Form::Leaky => charge_trace::<LeakyBucketForm>(heap, settings.rate, settings.burst, trace),
     }
 }

@@ -15,7 +15,12 @@ impl Tally {
     pub fn new() -> Self
         ensures { λ r. ⌜ r ≡ none-yet ⌝ }
     {
-        Tally { packets: 0, passed: 0, tokens: 0, passed_tokens: 0 }
+        Tally {
+            packets: 0,
+            passed: 0,
+            tokens: 0,
+            passed_tokens: 0,
+        }
     }
 
     // Counts one packet more.

@@ -17,9 +17,9 @@ returns-then-byte-lt48 c =
     let text = c .args .text .now in
     let i = c .loop-byte .byte-index in
     let other : is-digit (getD text i 0) ≡ false = elim (c .then-byte-lt48 .came) [
-          then-byte-lt48·by·then-byte-lt48 w ↦ grind (arith, tells)
-        | then-byte-lt48·by·else-byte-lt48·then-byte-gt57 w ↦ grind (arith, tells)
-        ] in
+      | then-byte-lt48·by·then-byte-lt48 w ↦ grind (arith, tells)
+      | then-byte-lt48·by·else-byte-lt48·then-byte-gt57 w ↦ grind (arith, tells)
+    ] in
     let some : 0 < length text = grind (arith, tells) in
     sym (ap (mapped capped) (written-some text some) ∙ c .loop-byte .inv .1 ∙ ap (mapped capped) (digit-lacks text (c .loop-byte .n) i (c .loop-byte-test .taken) other))
 

@@ -23,10 +23,11 @@ pub loop-rest-again : need.loop-rest-again
 loop-rest-again g c =
     let line = c .in-Continue-ending .ensures tt in
     let some : 0 < length (c .loop-rest .rest .now) = grind (arith, tells) in
-    let shorter : length (c .cut .result .1 .now) < length (c .loop-rest .rest .now) = rw (c .cut .ensures .back) (beyond-shorter 10 (c .loop-rest .rest .now) some) in
-    (c .charge-line .ensures .consistent,
+    let shorter : length (c .cut .result .1 .now) < length (c .loop-rest .rest .now) = rw (c .cut .ensures .back) (beyond-shorter 10 (c .loop-rest .rest .now) some) in (
+      c .charge-line .ensures .consistent,
       omega (arith, c .charge-line .ensures .bound, c .loop-rest .inv .1),
-      c .loop-rest .inv .2 ∙ line-more _ _ _ _ _ some (c .cut .ensures .front) (c .cut .ensures .back) _ _ _ (line .text) (line .next) (c .in-rest .is))
+      c .loop-rest .inv .2 ∙ line-more _ _ _ _ _ some (c .cut .ensures .front) (c .cut .ensures .back) _ _ _ (line .text) (line .next) (c .in-rest .is),
+    )
 
 pub returns : need.returns
 returns g c =
