@@ -22,7 +22,7 @@ use tokens::token_bucket::TokenBucketForm;
 use tokens::virtual_scheduling::VirtualSchedulingForm;
 
 /// How a run ends: after the last packet, at a refusal, or at a line (counted from 1) that is no packet.
-#[derive(Clone, Copy)]
+#[derive(Clone, Copy, PartialEq, Eq, Debug)]
 pub enum Ending {
     Complete,
     Fault,
