@@ -27,8 +27,11 @@ abbrev pub fresh : ℕ → ℕ → Metered
 fresh rate burst = record { rate = rate; burst = burst; latest = 0; level = grains burst }
 
 -- the rule of time: the level grows by rate × time, up to the burst
+abbrev pub grown : ℕ → ℕ → ℕ → ℕ → ℕ
+grown rate burst level time = min (grains burst) (level + rate * time)
+
 abbrev pub level-at : Metered → ℕ → ℕ
-level-at m moment = min (grains (m .burst)) (m .level + m .rate * (moment - m .latest))
+level-at m moment = grown (m .rate) (m .burst) (m .level) (moment - m .latest)
 
 -- a packet conforms where its tokens are at most the burst and at most the level at its moment
 abbrev pub conforms : Metered → ℕ → ℕ → Bool

@@ -3,9 +3,8 @@ ghost use mathlib.Core.Bool.{true};
 ghost use mathlib.Core.Path.{_≡_};
 ghost use Rattle.std.specs.Orderings.{Decides};
 ghost use Rattle.std.specs.Results.{isErr};
-ghost use Rattle.tokens.specs.Histories.{Kept, Keeps-to-limits, Answer-alike, Meter-figure, figure-calls};
-ghost use Rattle.tokens.specs.Meters.{new-causes};
-ghost use Rattle.tokens.specs.Refusals.{told, unless-refused};
+ghost use Rattle.tokens.specs.Histories.{Kept, Keeps-to-limits, Answer-alike, answers, Meter-figure, figure-calls};
+ghost use Rattle.tokens.specs.Refusals.{told};
 use crate::meter::Meter;
 use crate::refusal::Refusal;
 use crate::refusal::RefusalPartialEq;
@@ -51,21 +50,26 @@ fn same(a: Result<Answer, Refusal>, b: Result<Answer, Refusal>) -> bool
     }
 }
 
-/// Puts the same calls to a new meter of each of two forms, and answers whether they told the same throughout.
-/// They always do: that is the law. And in every history of calls a meter keeps to its limits.
-pub fn alike<M: Meter, N: Meter>(rate: u64, burst: u64, calls: &[Call]) -> Result<bool, Refusal>
-    ensures value { λ r. ⌜ told r ≡ unless-refused (new-causes rate burst) true ⌝ }
+/// Whether two meters, of any two forms, tell the same throughout when the same calls are put to them. Meters that
+/// are new at the same rate and burst always do: that is the law. And in every history of calls a meter keeps to
+/// its limits.
+pub fn alike<M: Meter, N: Meter>(mut m: M, mut n: N, calls: &[Call]) -> bool
+    ensures value { λ r. ⌜ Decides r (answers (M·Meter .meaning m) (now (calls .entry)) ≡ answers (N·Meter .meaning n) (now (calls .entry))) ⌝ }
     ensures law { λ _. ⌜ Answer-alike (M·Meter .meaning) (N·Meter .meaning) ⌝ }
     ensures limits { λ _. ⌜ Keeps-to-limits (M·Meter .meaning) ⌝ }
 {
-    let mut m = M::new(rate, burst)?;
-    let mut n = N::new(rate, burst)?;
     for call in calls {
         if !same(put(&mut m, *call), put(&mut n, *call)) {
-            return Ok(false);
+            return false;
         }
     }
-    Ok(true)
+    true
+}
+
+fn charge(tokens: u32, moment: u64) -> Call
+    ensures { λ r. ⌜ r ≡ Call.Charge tokens moment ⌝ }
+{
+    Call::Charge { tokens, moment }
 }
 
 /// The worked figure, to be put to a meter of rate 1,000 and burst 1,500: yes, no, yes, no.
@@ -74,21 +78,9 @@ pub fn worked_figure() -> [Call; 4]
     ensures answers { λ _. ⌜ Meter-figure ⌝ }
 {
     [
-        Call::Charge {
-            tokens: 1500,
-            moment: 0,
-        },
-        Call::Charge {
-            tokens: 1,
-            moment: 999,
-        },
-        Call::Charge {
-            tokens: 1,
-            moment: 1000,
-        },
-        Call::Charge {
-            tokens: 1501,
-            moment: 3_600_000_000,
-        },
+        charge(1_500, 0),
+        charge(1, 999),
+        charge(1, 1_000),
+        charge(1_501, 3_600_000_000),
     ]
 }

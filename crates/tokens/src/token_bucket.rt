@@ -1,6 +1,7 @@
 // The continuous token bucket: a meter that stores its level.
 ghost use mathlib.Core.Path.{_≡_};
-ghost use Prim.Native.Nat.{_+_, _-_, _*_, _≤_, min};
+ghost use Prim.Native.Nat.{_-_, _≤_};
+ghost use Rattle.tokens.specs.Meters.{grown};
 ghost use Rattle.tokens.specs.Units.{grains as inGrains, day-end};
 use crate::checks::check_moment;
 use crate::checks::check_packet;
@@ -23,10 +24,10 @@ impl TokenBucket {
     fn level_at(&self, moment: u64) -> u64
         requires later { ⌜ now self .latest ≤ moment ⌝ }
         requires day { ⌜ moment ≤ day-end ⌝ }
-        ensures { λ r. ⌜ r ≡ min (inGrains (now (self .entry) .limits .burst)) (now (self .entry) .level + now (self .entry) .limits .rate * (moment - now (self .entry) .latest)) ⌝ }
+        ensures { λ r. ⌜ r ≡ grown (now (self .entry) .limits .rate) (now (self .entry) .limits .burst) (now (self .entry) .level) (moment - now (self .entry) .latest) ⌝ }
     {
-        let grown = self.level + self.limits.gained(moment - self.latest);
-        grown.min(self.limits.full())
+        let uncapped = self.level + self.limits.gained(moment - self.latest);
+        uncapped.min(self.limits.full())
     }
 }
 

@@ -64,6 +64,8 @@ pub impl Meter for VirtualScheduling as VirtualSchedulingForm {
 
     fn wait(&mut self, moment: u64) -> Result<(), Refusal> {
         check_moment(self.latest, moment)?;
+        // A due time that has passed is worth the present.
+        self.due = self.due.max(self.arrival(moment));
         self.latest = moment;
         Ok(())
     }

@@ -1,7 +1,7 @@
-// A packet trace against one rate and burst.
+// A packet trace against one rate and burst: what `conform` prints of it.
 pub mod arguments;
-pub mod bytes;
-pub mod packet;
+mod bytes;
+mod packet;
 pub mod program;
 pub mod report;
-pub mod tally;
+mod tally;

@@ -15,7 +15,8 @@ struct Net {
 
 impl Net {
     fn count(&self) -> i128 {
-        self.volume.wrapping_sub(self.highest.wrapping_sub(self.net))
+        self.volume
+            .wrapping_sub(self.highest.wrapping_sub(self.net))
     }
 
     // What an offer adds.
@@ -56,7 +57,14 @@ fn any_amount(chance: &mut Chance, net: &Net) -> u64 {
 
 fn sequence<B: Bucket>(seed: u64) -> Result<(), Fail> {
     let mut chance = Chance::new(seed);
-    let volumes = [0, 1, 1_500, 1_000_000_000, 4_294_967_295, chance.between(0, 4_294_967_295)];
+    let volumes = [
+        0,
+        1,
+        1_500,
+        1_000_000_000,
+        4_294_967_295,
+        chance.between(0, 4_294_967_295),
+    ];
     let tokens = u32::try_from(chance.pick(&volumes)).unwrap_or(0);
     let volume = i128::from(tokens).wrapping_mul(1_000_000);
     let mut net = Net {

@@ -3,13 +3,13 @@ use crate::chance::Chance;
 use crate::windows::Windows;
 use std::alloc::Global;
 use std::test::*;
-use tokens::calls::alike;
-use tokens::calls::put;
-use tokens::calls::worked_figure;
 use tokens::calls::Answer;
 use tokens::calls::AnswerDebug;
 use tokens::calls::AnswerPartialEq;
 use tokens::calls::Call;
+use tokens::calls::alike;
+use tokens::calls::put;
+use tokens::calls::worked_figure;
 use tokens::leaky_bucket::LeakyBucketForm;
 use tokens::meter::Meter;
 use tokens::refusal::Refusal;
@@ -76,8 +76,19 @@ fn any_moment(chance: &mut Chance, latest: u64, rate: u64, tokens: u32) -> u64 {
         latest.saturating_add(chance.between(0, 2_000)),
         latest.saturating_add(chance.between(0, 2_000_000)),
     ];
-    let rare = [latest.saturating_sub(1), 0, DAY_END, DAY_END + 1, u64::MAX, latest.saturating_add(3_600_000_000)];
-    if chance.between(0, 19) == 0 { chance.pick(&rare) } else { chance.pick(&edges) }
+    let rare = [
+        latest.saturating_sub(1),
+        0,
+        DAY_END,
+        DAY_END + 1,
+        u64::MAX,
+        latest.saturating_add(3_600_000_000),
+    ];
+    if chance.between(0, 19) == 0 {
+        chance.pick(&rare)
+    } else {
+        chance.pick(&edges)
+    }
 }
 
 fn any_call(chance: &mut Chance, windows: &Windows, rate: u64, burst: u64) -> Call {
@@ -100,8 +111,16 @@ fn told<M: Meter>(meter: &mut M, call: Call) -> Result<Answer, u8> {
 // One sequence of calls upon all three forms and the meter by windows.
 fn sequence(heap: Global, seed: u64, kinds: &mut Kinds) -> Result<(), Fail> {
     let mut chance = Chance::new(seed);
-    let rate = if chance.between(0, 3) == 0 { chance.between(1, 100_000_000) } else { chance.pick(&RATES) };
-    let burst = if chance.between(0, 3) == 0 { chance.between(1, 1_000_000_000) } else { chance.pick(&BURSTS) };
+    let rate = if chance.between(0, 3) == 0 {
+        chance.between(1, 100_000_000)
+    } else {
+        chance.pick(&RATES)
+    };
+    let burst = if chance.between(0, 3) == 0 {
+        chance.between(1, 1_000_000_000)
+    } else {
+        chance.pick(&BURSTS)
+    };
     let mut windows = Windows::new(heap, rate, burst).ok_or("out of range")?;
     let mut token = TokenBucketForm::new(rate, burst)?;
     let mut schedule = VirtualSchedulingForm::new(rate, burst)?;
@@ -134,7 +153,18 @@ fn three_forms_agree_with_windows(rt: LibcRuntime) -> Result<(), Fail> {
 
 #[test]
 fn rates_and_bursts_at_the_edges(rt: LibcRuntime) -> Result<(), Fail> {
-    let edges = [0, 1, 2, 99_999_999, 100_000_000, 100_000_001, 999_999_999, 1_000_000_000, 1_000_000_001, u64::MAX];
+    let edges = [
+        0,
+        1,
+        2,
+        99_999_999,
+        100_000_000,
+        100_000_001,
+        999_999_999,
+        1_000_000_000,
+        1_000_000_001,
+        u64::MAX,
+    ];
     for rate in edges {
         for burst in edges {
             let lawful = Windows::new(rt.alloc(), rate, burst).is_some();
@@ -160,5 +190,19 @@ fn worked_figure_in_three_forms() -> Result<(), Fail> {
         check_eq(told(&mut schedule, *call), Ok(*answer))?;
         check_eq(told(&mut leaky, *call), Ok(*answer))?;
     }
-    check_eq(alike::<TokenBucketForm, LeakyBucketForm>(1_000, 1_500, &worked_figure())?, true)
+    Ok(())
+}
+
+#[test]
+fn meters_of_one_burst_are_alike_and_of_two_are_not() -> Result<(), Fail> {
+    let calls = worked_figure();
+    let token = TokenBucketForm::new(1_000, 1_500)?;
+    let schedule = VirtualSchedulingForm::new(1_000, 1_500)?;
+    let leaky = LeakyBucketForm::new(1_000, 1_500)?;
+    check(alike(token, schedule, &calls))?;
+    check(alike(schedule, leaky, &calls))?;
+    check(alike(leaky, token, &calls))?;
+    let smaller = LeakyBucketForm::new(1_000, 1_499)?;
+    check_eq(alike(token, smaller, &calls), false)?;
+    check(alike(token, smaller, &[]))
 }

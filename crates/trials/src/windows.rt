@@ -40,7 +40,9 @@ impl Windows {
         for (then, earlier) in self.passed.iter().rev() {
             sum = sum.saturating_add(u128::from(*earlier));
             let time = u128::from(moment.saturating_sub(*then));
-            let room = self.burst.saturating_mul(1_000_000).saturating_add(self.rate.saturating_mul(time));
+            let room = self.burst
+                .saturating_mul(1_000_000)
+                .saturating_add(self.rate.saturating_mul(time));
             if sum.saturating_mul(1_000_000) > room {
                 return false;
             }
@@ -72,7 +74,10 @@ impl Windows {
         }
         let passes = self.passes(tokens, moment);
         match call {
-            Call::Question { tokens: _, moment: _ } => {}
+            Call::Question {
+                tokens: _,
+                moment: _,
+            } => {}
             Call::Charge { tokens, moment } => {
                 self.latest = moment;
                 if passes {
