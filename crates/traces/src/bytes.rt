@@ -2,8 +2,8 @@
 ghost use mathlib.Core.Path.{_≡_};
 ghost use Rattle.traces.specs.Bytes.{before, beyond, number-in};
 
-/// What stands before the first separator, and what stands beyond it.
-pub fn cut(text: &[u8], separator: u8) -> (&[u8], &[u8])
+// What stands before the first separator, and what stands beyond it.
+pub(crate) fn cut(text: &[u8], separator: u8) -> (&[u8], &[u8])
     ensures front { λ r. ⌜ now (r .0) ≡ before separator (now (text .entry)) ⌝ }
     ensures back { λ r. ⌜ now (r .1) ≡ beyond separator (now (text .entry)) ⌝ }
 {
@@ -15,8 +15,8 @@ pub fn cut(text: &[u8], separator: u8) -> (&[u8], &[u8])
     (text, &text[text.len()..])
 }
 
-/// The number that decimal digits write; one that 64 bits do not hold is read as the largest that they do.
-pub fn number(text: &[u8]) -> Option<u64>
+// The number that decimal digits write; one that 64 bits do not hold is read as the largest that they do.
+pub(crate) fn number(text: &[u8]) -> Option<u64>
     ensures { λ r. ⌜ r ≡ number-in (now (text .entry)) ⌝ }
 {
     if text.is_empty() {

@@ -5,13 +5,13 @@ use crate::bytes::cut;
 use crate::bytes::number;
 
 #[derive(Clone, Copy)]
-pub struct Packet {
-    pub tokens: u32,
-    pub moment: u64,
+pub(crate) struct Packet {
+    pub(crate) tokens: u32,
+    pub(crate) moment: u64,
 }
 
-/// The packet that a line writes: its tokens and its moment, two numbers with one space between.
-pub fn read_packet(line: &[u8]) -> Option<Packet>
+// The packet that a line writes: its tokens and its moment, two numbers with one space between.
+pub(crate) fn read_packet(line: &[u8]) -> Option<Packet>
     ensures { λ r. ⌜ r ≡ packet-in (now (line .entry)) ⌝ }
 {
     let (front, back) = cut(line, b' ');

@@ -6,6 +6,7 @@ ghost use Rattle.std.specs.Of.String.{string-bytes};
 ghost use Rattle.std.specs.Vec.{made};
 ghost use Rattle.traces.specs.Bytes.{lines};
 ghost use Rattle.traces.specs.Reports.{Consistent, packet-line, fault-line, last-line, next-by, run, lined, after-text, reported, none-yet, report-of};
+ghost use Rattle.traces.specs.Totals.{Lists-answers-and-sums};
 use crate::arguments::Arguments;
 use crate::arguments::Form;
 use crate::bytes::cut;
@@ -27,6 +28,13 @@ pub enum Ending {
     Complete,
     Fault,
     NotTwoNumbers(u64),
+}
+
+/// The text that `conform` prints, and how the run ends.
+#[derive(Drop)]
+pub struct Report {
+    pub text: String,
+    pub ending: Ending,
 }
 
 /// There was no memory for the text of the report.
@@ -135,13 +143,6 @@ fn charge_lines<M: Meter>(
     Ok(Ending::Complete)
 }
 
-/// The text that `conform` prints, and how the run ends.
-#[derive(Drop)]
-pub struct Report {
-    pub text: String,
-    pub ending: Ending,
-}
-
 // Charges the packets of a trace to a new meter, each at its moment, and says which of them pass.
 fn charge_trace<M: Meter>(
     heap: Global,
@@ -165,16 +166,13 @@ fn charge_trace<M: Meter>(
 /// Charges the packets of a trace to a new meter, each at its moment, and says which of them pass. The report does
 /// not depend on the form.
 pub fn conform(heap: Global, settings: Arguments, trace: &[u8]) -> Result<Report, OutOfMemory>
-    ensures { λ r. ⌜ made r (λ o. record { text = string-bytes (o .text); ending = o .ending } ≡ report-of (settings .rate) (settings .burst) (now (trace .entry))) ⌝ }
+    ensures value { λ r. ⌜ made r (λ o. record { text = string-bytes (o .text); ending = o .ending } ≡ report-of (settings .rate) (settings .burst) (now (trace .entry))) ⌝ }
+    ensures law { λ _. ⌜ Lists-answers-and-sums ⌝ }
 {
-    match settings.form {
-        Form::Token => charge_trace::<TokenBucketForm>(heap, settings.rate, settings.burst, trace),
-        Form::Schedule => charge_trace::<VirtualSchedulingForm>(
-            heap,
-            settings.rate,
-            settings.burst,
-            trace,
-        ),
-        Form::Leaky => charge_trace::<LeakyBucketForm>(heap, settings.rate, settings.burst, trace),
+    let Arguments { rate, burst, form } = settings;
+    match form {
+        Form::Token => charge_trace::<TokenBucketForm>(heap, rate, burst, trace),
+        Form::Schedule => charge_trace::<VirtualSchedulingForm>(heap, rate, burst, trace),
+        Form::Leaky => charge_trace::<LeakyBucketForm>(heap, rate, burst, trace),
     }
 }

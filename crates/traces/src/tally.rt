@@ -4,15 +4,15 @@ ghost use Prim.Native.Nat.{_+_, _<_, _^_};
 ghost use Rattle.traces.specs.Reports.{Consistent, none-yet, counted};
 
 #[derive(Clone, Copy)]
-pub struct Tally {
-    pub packets: u64,
-    pub passed: u64,
-    pub tokens: u128,
-    pub passed_tokens: u128,
+pub(crate) struct Tally {
+    pub(crate) packets: u64,
+    pub(crate) passed: u64,
+    pub(crate) tokens: u128,
+    pub(crate) passed_tokens: u128,
 }
 
 impl Tally {
-    pub fn new() -> Self
+    pub(crate) fn new() -> Self
         ensures { λ r. ⌜ r ≡ none-yet ⌝ }
     {
         Tally {
@@ -24,7 +24,7 @@ impl Tally {
     }
 
     // Counts one packet more.
-    pub fn count(&mut self, tokens: u32, passes: bool)
+    pub(crate) fn count(&mut self, tokens: u32, passes: bool)
         requires consistent { ⌜ Consistent (now self) ⌝ }
         requires room { ⌜ now self .packets + 1 < 2 ^ 64 ⌝ }
         ensures after { λ _. ⌜ now (self .exit) ≡ counted (now (self .entry)) tokens passes ⌝ }
