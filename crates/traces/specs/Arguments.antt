@@ -29,3 +29,9 @@ arguments-from (Some rate) (Some burst) (Some form) = Ok (record { rate = rate; 
 
 abbrev pub arguments-in : List ℕ → List ℕ → List ℕ → Result Arguments Misuse
 arguments-in rate burst form = arguments-from (number-in rate) (number-in burst) (form-in form)
+
+-- what the user is told
+abbrev pub misuse-text : Misuse → List ℕ
+misuse-text Rate = codes "RATE is not a whole number"
+misuse-text Burst = codes "BURST is not a whole number"
+misuse-text UnknownForm = codes "FORM is none of token, schedule and leaky"

@@ -113,3 +113,7 @@ started (refused refusal) ls = record { text = fault-line 0 refusal; ending = Fa
 
 abbrev pub report-of : ℕ → ℕ → List ℕ → Outcome
 report-of rate burst trace = started (new-told rate burst) (lines trace)
+
+-- what the user is told of a line that is no packet
+abbrev pub complaint-text : ℕ → List ℕ
+complaint-text line = codes "line " ++ (decimal line ++ codes " is not two numbers, TOKENS up to 4294967295 and MOMENT, with one space between")

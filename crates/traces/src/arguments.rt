@@ -1,6 +1,6 @@
 // The words of a command line as the settings of a run.
 ghost use mathlib.Core.Path.{_≡_};
-ghost use Rattle.traces.specs.Arguments.{arguments-in, form-in};
+ghost use Rattle.traces.specs.Arguments.{arguments-in, form-in, misuse-text};
 use crate::bytes::number;
 
 /// The form of meter that a trace is charged to.
@@ -24,6 +24,19 @@ pub enum Misuse {
     Rate,
     Burst,
     UnknownForm,
+}
+
+impl Misuse {
+    /// What the user is told.
+    pub fn text(self) -> &'static str
+        ensures { λ r. ⌜ now r ≡ misuse-text self ⌝ }
+    {
+        match self {
+            Misuse::Rate => "RATE is not a whole number",
+            Misuse::Burst => "BURST is not a whole number",
+            Misuse::UnknownForm => "FORM is none of token, schedule and leaky",
+        }
+    }
 }
 
 fn form_named(word: &str) -> Option<Form>

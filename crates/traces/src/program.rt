@@ -1,9 +1,9 @@
 // The program `conform`: reads, calls, writes. What it prints is the library's report.
 use crate::arguments::Arguments;
-use crate::arguments::Misuse;
 use crate::arguments::read_arguments;
 use crate::report::Ending;
 use crate::report::OutOfMemoryError;
+use crate::report::complaint;
 use crate::report::conform;
 use std::env;
 use std::error::AnyError;
@@ -21,9 +21,7 @@ fn arguments(rt: &LibcRuntime) -> Result<Arguments, AnyError> {
     };
     match read {
         Ok(arguments) => Ok(arguments),
-        Err(Misuse::Rate) => Err("RATE is not a whole number".into()),
-        Err(Misuse::Burst) => Err("BURST is not a whole number".into()),
-        Err(Misuse::UnknownForm) => Err("FORM is none of token, schedule and leaky".into()),
+        Err(misuse) => Err(misuse.text().into()),
     }
 }
 
@@ -35,12 +33,7 @@ fn print_report(rt: &LibcRuntime) -> Result<(), AnyError> {
     rt.stdout().write_all(report.text.as_bytes())?;
     match report.ending {
         Ending::Complete | Ending::Fault => Ok(()),
-        Ending::NotTwoNumbers(line) => {
-            Err(format!(
-                rt.alloc(),
-                "line {line} is not two numbers, TOKENS up to 4294967295 and MOMENT, with one space between"
-            )?.into())
-        }
+        Ending::NotTwoNumbers(line) => Err(complaint(rt.alloc(), line)?.into()),
     }
 }
 

@@ -5,7 +5,7 @@ ghost use Prim.Native.Nat.{_+_, _<_, _≤_, _^_};
 ghost use Rattle.std.specs.Of.String.{string-bytes};
 ghost use Rattle.std.specs.Vec.{made};
 ghost use Rattle.traces.specs.Bytes.{lines};
-ghost use Rattle.traces.specs.Reports.{Consistent, packet-line, fault-line, last-line, next-by, run, lined, after-text, reported, none-yet, report-of};
+ghost use Rattle.traces.specs.Reports.{Consistent, packet-line, fault-line, last-line, next-by, run, lined, after-text, reported, none-yet, report-of, complaint-text};
 ghost use Rattle.traces.specs.Totals.{Lists-answers-and-sums};
 use crate::arguments::Arguments;
 use crate::arguments::Form;
@@ -175,4 +175,16 @@ pub fn conform(heap: Global, settings: Arguments, trace: &[u8]) -> Result<Report
         Form::Schedule => charge_trace::<VirtualSchedulingForm>(heap, rate, burst, trace),
         Form::Leaky => charge_trace::<LeakyBucketForm>(heap, rate, burst, trace),
     }
+}
+
+/// What the user is told of a line that is no packet.
+pub fn complaint(heap: Global, line: u64) -> Result<String, OutOfMemory>
+    ensures { λ r. ⌜ made r (λ t. string-bytes t ≡ complaint-text line) ⌝ }
+{
+    let mut text = String::new(heap);
+    write!(
+        text,
+        "line {line} is not two numbers, TOKENS up to 4294967295 and MOMENT, with one space between"
+    )?;
+    Ok(text)
 }

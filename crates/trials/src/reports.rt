@@ -8,10 +8,12 @@ use tokens::calls::Answer;
 use tokens::calls::Call;
 use traces::arguments::Arguments;
 use traces::arguments::Form;
+use traces::arguments::read_arguments;
 use traces::report::Ending;
 use traces::report::EndingDebug;
 use traces::report::EndingPartialEq;
 use traces::report::OutOfMemoryDebug;
+use traces::report::complaint;
 use traces::report::conform;
 
 const FORMS: [Form; 3] = [Form::Token, Form::Schedule, Form::Leaky];
@@ -148,6 +150,35 @@ fn lines_that_are_no_packets(rt: LibcRuntime) -> Result<(), Fail> {
         "",
         Ending::NotTwoNumbers(1),
     )
+}
+
+#[test]
+fn what_the_user_is_told(rt: LibcRuntime) -> Result<(), Fail> {
+    let told = complaint(rt.alloc(), 12)?;
+    check_eq(
+        told.as_str(),
+        "line 12 is not two numbers, TOKENS up to 4294967295 and MOMENT, with one space between",
+    )?;
+    check_eq(
+        misuse("x", "1", "token"),
+        Some("RATE is not a whole number"),
+    )?;
+    check_eq(
+        misuse("1", "", "token"),
+        Some("BURST is not a whole number"),
+    )?;
+    check_eq(
+        misuse("1", "1", "tokens"),
+        Some("FORM is none of token, schedule and leaky"),
+    )?;
+    check_eq(misuse("1", "1", "schedule"), None)
+}
+
+fn misuse(rate: &str, burst: &str, form: &str) -> Option<&'static str> {
+    match read_arguments(rate, burst, form) {
+        Ok(_) => None,
+        Err(misuse) => Some(misuse.text()),
+    }
 }
 
 const DAMAGED: [&str; 14] = [
