@@ -1,5 +1,5 @@
 -- What a bucket does to its count, in grains. Its volume never changes. Assumes nothing.
-use Prim.Native.Nat.{ℕ, _+_, _-_, min}
+use Prim.Native.Nat.{ℕ, _-_, min}
 use mathlib.Core.Bool.{Bool, cond}
 use lib.Dec.{leb}
 

@@ -1,6 +1,6 @@
 -- Lists of calls upon a meter, and what holds of them whatever the form of the meter. Assumes nothing.
 use Prim.Native.Nat.{ℕ, _+_, _-_, _*_, _≤_, _<_}
-use mathlib.Core.Bool.{Bool, cond}
+use mathlib.Core.Bool.{cond}
 use mathlib.Core.List.{List, [], _∷_, map}
 use mathlib.Core.Path.{_≡_}
 use Rattle.std.specs.shelf.Lists.{All}
@@ -45,10 +45,10 @@ History {M} meaning first (e ∷ es) last =
     (left : M) × Kept (meaning first) (e .call) (e .told) (meaning left) × History meaning left es last
 
 -- the tokens of the charges that passed
-abbrev pub charge-of : Call → ℕ
-charge-of (Question tokens moment) = 0
-charge-of (Charge tokens moment) = tokens
-charge-of (Wait moment) = 0
+abbrev pub charged-tokens : Call → ℕ
+charged-tokens (Question tokens moment) = 0
+charged-tokens (Charge tokens moment) = tokens
+charged-tokens (Wait moment) = 0
 
 abbrev pub if-yes : Told Answer → ℕ → ℕ
 if-yes (answered Yes) tokens = tokens
@@ -58,7 +58,7 @@ if-yes (refused number) tokens = 0
 
 abbrev pub passed : List Event → ℕ
 passed [] = 0
-passed (e ∷ es) = if-yes (e .told) (charge-of (e .call)) + passed es
+passed (e ∷ es) = if-yes (e .told) (charged-tokens (e .call)) + passed es
 
 -- what a meter is for: between any two states of it, in grains, what passed is at most the level at the first and
 -- what the rate brings in the time between

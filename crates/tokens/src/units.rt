@@ -1,7 +1,7 @@
 // Units and limits. A token is one byte; a grain is a millionth of a token; a moment is microseconds since the
 // service day began. A rate is whole tokens a second, so rate × microseconds is grains, with no rounding.
 ghost use mathlib.Core.Path.{_≡_};
-ghost use Prim.Native.Nat.{_*_, _≤_};
+ghost use Prim.Native.Nat.{_*_};
 ghost use Rattle.tokens.specs.Units.{grains as inGrains};
 
 pub const GRAINS_PER_TOKEN: u64 = 1_000_000;

@@ -1,19 +1,17 @@
 -- A complete run lists the meter's answers and closes with the sums. Assumes nothing.
 use Prim.Native.Nat.{ℕ, _+_}
-use mathlib.Core.Bool.{Bool, true, false, cond}
+use mathlib.Core.Bool.{Bool, true, false}
 use mathlib.Core.List.{List, [], _∷_, _++_, map, append-assoc}
 use mathlib.Core.Path.{_≡_, refl, sym, ap, _∙_}
 use native.Mathlib.Omega.{arith}
-use lib.ListN.{length}
 use Rattle.std.specs.declared.option.Option.the-variants.{Some}
 use Rattle.tokens.specs.Histories.{answers, read-by}
-use Rattle.tokens.specs.Meters.{Metered, charged, fresh, new-told, packet-told}
+use Rattle.tokens.specs.Meters.{Metered, charged, fresh, packet-told}
 use Rattle.tokens.specs.Refusals.{Told, answered, refused}
-use Rattle.tokens.specs.declared.calls.Answer.the-variants.{Yes, No}
 use Rattle.traces.specs.Bytes.{lines}
 use Rattle.traces.specs.Packets.{packet-in}
-use Rattle.traces.specs.Reports.{Lined, Outcome, Run, after-text, charged-line, continued, counted, last-line, lined, none-yet, packet-line, read-line, reported, run, started}
-use Rattle.traces.specs.Totals.{Lists-answers-and-sums, charge-of, listed, passing, tokens-in, totals, yes-or-no}
+use Rattle.traces.specs.Reports.{Outcome, Run, after-text, charged-line, continued, counted, last-line, lined, none-yet, packet-line, read-line, reported, run, started}
+use Rattle.traces.specs.Totals.{Lists-answers-and-sums, charge-of, listed, passing, totals, yes-or-no}
 use Rattle.traces.specs.declared.packet.Packet.{Packet}
 use Rattle.traces.specs.declared.report.Ending.the-variants.{Complete}
 use Rattle.traces.specs.declared.tally.Tally.{Tally}

@@ -15,7 +15,7 @@ use Rattle.tokens.specs.declared.calls.Call.{Call}
 use Rattle.tokens.specs.declared.calls.Call.the-variants.{Charge}
 use Rattle.traces.specs.Bytes.{lines}
 use Rattle.traces.specs.Packets.{packet-in}
-use Rattle.traces.specs.Reports.{Outcome, last-line, packet-line, report-of}
+use Rattle.traces.specs.Reports.{last-line, packet-line, report-of}
 use Rattle.traces.specs.declared.packet.Packet.{Packet}
 use Rattle.traces.specs.declared.report.Ending.the-variants.{Complete}
 use Rattle.traces.specs.declared.tally.Tally.{Tally}

@@ -1,13 +1,13 @@
 use Prim.Native.Nat.{_+_, _-_, _*_, _<_}
 use mathlib.Core.Bool.{true, false}
-use mathlib.Core.Path.{_≡_, refl, sym, ap, _∙_}
+use mathlib.Core.Path.{_≡_, sym, ap, _∙_}
 use native.Mathlib.Omega.{arith}
 use lib.ListN.{length, getD, drop}
 use Rattle.std.proofs.shelf.Lists.{drop-all}
 use Rattle.std.proofs.shelf.Ways.{tells}
 use Rattle.std.specs.Options.{mapped}
 use Rattle.std.specs.declared.option.Option.the-variants.{Some}
-use Rattle.traces.specs.Bytes.{capped, digits-after, is-digit, number-in}
+use Rattle.traces.specs.Bytes.{capped, digits-after, is-digit}
 use Rattle.traces.proofs.Reading.{capped-alike, written-some, digit-more, digit-lacks}
 use Rattle.traces.proofs.bytes.number.Needs as need
 use Rattle.traces.proofs.bytes.number.Needs.{then-byte-lt48·by·then-byte-lt48, then-byte-lt48·by·else-byte-lt48·then-byte-gt57}

@@ -1,4 +1,3 @@
-use borrow.Author.Needs.{needs}
 use Rattle.traces.proofs.Summing.{lists-answers-and-sums}
 use Rattle.traces.proofs.report.conform.Needs as need
 
