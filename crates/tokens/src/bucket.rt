@@ -1,4 +1,5 @@
 // A bucket, by its meaning: a volume and a count, both in grains.
+ghost use mathlib.Core.Bool.{false};
 ghost use mathlib.Core.Path.{_≡_};
 ghost use Prim.Native.Nat.{ℕ, _+_, _≤_};
 ghost use Rattle.tokens.specs.Buckets.{added, covers, spent};
@@ -34,5 +35,6 @@ pub trait Bucket: Copy {
     fn spend(&mut self, amount: u64) -> bool
         ensures value { λ r. ⌜ r ≡ covers (count (now (self .entry))) amount ⌝ }
         ensures volume { λ _. ⌜ volume (now (self .exit)) ≡ volume (now (self .entry)) ⌝ }
-        ensures count { λ _. ⌜ count (now (self .exit)) ≡ spent (count (now (self .entry))) amount ⌝ };
+        ensures count { λ _. ⌜ count (now (self .exit)) ≡ spent (count (now (self .entry))) amount ⌝ }
+        ensures same { λ r. ⌜ (r ≡ false → now (self .exit) ≡ now (self .entry)) ⌝ };
 }
