@@ -36,9 +36,6 @@ pub record Same-so-far (m₀ n₀ : Metered) (calls : List Call) (m n : Metered)
   pub onward : answers m₀ calls ≡ answers n₀ calls → answers m (drop i calls) ≡ answers n (drop i calls)
   pub back : answers m (drop i calls) ≡ answers n (drop i calls) → answers m₀ calls ≡ answers n₀ calls
 
-pub same-none : (m n : Metered) (calls : List Call) → Same-so-far m n calls m n 0
-same-none m n calls = record { onward = λ e. e; back = λ e. e }
-
 module _ (m₀ n₀ : Metered) (calls : List Call) (i : ℕ) (d : Call) (within : i < length calls) where
   abbrev here : Call
   here = getD calls i d

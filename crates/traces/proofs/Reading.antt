@@ -32,9 +32,6 @@ pub record Passed (separator : ℕ) (text : List ℕ) (i : ℕ) : Type 0 where
   pub front : before separator text ≡ take i text ++ before separator (drop i text)
   pub back : beyond separator text ≡ beyond separator (drop i text)
 
-pub passed-none : (separator : ℕ) (text : List ℕ) → Passed separator text 0
-passed-none separator text = record { front = refl; back = refl }
-
 module _ (separator : ℕ) (text : List ℕ) (i : ℕ) (within : i < length text) where
   at-separator : getD text i 0 ≡ separator → (before separator (drop i text) ≡ []) × (beyond separator (drop i text) ≡ drop (i + 1) text)
   at-separator here = rw (drop-at text i within, here) (grind (arith, tells))
