@@ -1,3 +1,4 @@
+#![tactic(auto)]
 // A packet trace against one rate and burst.
 
 fn main(rt: HostRuntime) -> anyhow::Result<()> {

@@ -1,4 +1,6 @@
 // Envelopes: flows of up to eight ranks that hand down what they do not use, and the colours of their requests.
+#![tactic(auto)]
+
 mod buckets;
 pub mod colour;
 mod colouring;

@@ -1,4 +1,6 @@
 // Two flows and six requests, all for Green: which colours they get, and what is left.
+#![tactic(auto)]
+
 mod lines;
 mod profile;
 mod report;

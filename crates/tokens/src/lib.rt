@@ -1,4 +1,6 @@
 // Token buckets and single-rate meters, counted in grains, a millionth of a token. Nothing here allocates.
+#![tactic(auto)]
+
 pub mod bucket;
 pub mod calls;
 mod checks;

@@ -1,4 +1,6 @@
 // A packet trace against one rate and burst: what `conform` prints of it.
+#![tactic(auto)]
+
 pub mod arguments;
 mod bytes;
 mod packet;

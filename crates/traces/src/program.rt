@@ -1,6 +1,7 @@
 // The program `conform`: reads, calls, writes. What it prints is the library's report.
 use crate::arguments::{Arguments, read_arguments};
 use crate::report::{Ending, complaint, conform};
+use anyhow::anyhow;
 use std::env;
 use std::io::{Read, Write};
 
@@ -11,11 +12,11 @@ fn arguments(rt: &HostRuntime) -> anyhow::Result<Arguments> {
     let read = match words.as_slice() {
         [rate, burst] => read_arguments(rate.as_str(), burst.as_str(), "token"),
         [rate, burst, form] => read_arguments(rate.as_str(), burst.as_str(), form.as_str()),
-        _ => return Err(USAGE.into()),
+        _ => return Err(anyhow!(USAGE)),
     };
     match read {
         Ok(arguments) => Ok(arguments),
-        Err(misuse) => Err(misuse.text().into()),
+        Err(misuse) => Err(anyhow!(misuse.text())),
     }
 }
 
@@ -27,7 +28,7 @@ fn print_report(rt: &HostRuntime) -> anyhow::Result<()> {
     rt.stdout().write_all(report.text.as_bytes())?;
     match report.ending {
         Ending::Complete | Ending::Fault => Ok(()),
-        Ending::NotTwoNumbers(line) => Err(complaint(rt.alloc(), line)?.into()),
+        Ending::NotTwoNumbers(line) => Err(anyhow!(complaint(rt.alloc(), line)?)),
     }
 }
 

@@ -8,7 +8,7 @@ use crate::arguments::{Arguments, Form};
 use crate::bytes::cut;
 use crate::packet::{Packet, read_packet};
 use crate::tally::Tally;
-use std::alloc::Global;
+use std::alloc::{AllocError, Global};
 use std::error::Error;
 use std::fmt;
 use std::fmt::Write;
@@ -35,6 +35,12 @@ pub struct OutOfMemory;
 
 impl From<fmt::Error> for OutOfMemory {
     fn from(_e: fmt::Error) -> OutOfMemory {
+        OutOfMemory
+    }
+}
+
+impl From<AllocError> for OutOfMemory {
+    fn from(_e: AllocError) -> OutOfMemory {
         OutOfMemory
     }
 }

@@ -1,4 +1,6 @@
 // Trials: a second implementation of the rules, by another algorithm, and what it says against what the libraries say.
+#![tactic(auto)]
+
 #[cfg(test)]
 mod any_calls;
 #[cfg(test)]
