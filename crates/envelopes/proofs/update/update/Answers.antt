@@ -18,16 +18,16 @@ returns g c =
     let p : Profile = record { flows = flows c.args.rows.now; cf0 = c.args.cf0 } in
     let volume = g.B.Bucket.volume in
     let count = g.B.Bucket.count in
-    let gs = c.offer-each.new.buckets in
-    let ys = c.offer-each-2.new.buckets in
+    let gs = c.offer_each.new.buckets in
+    let ys = c.offer_each-2.new.buckets in
     let many : n ≡ length p.flows = sym (length-map c.args.rows.now (λ r. r.flow)) in
     let even = c.requires.even in
     let first = first_half n bs even in
-    let greens = as_many_told volume gs _ n c.offer-each.ensures.volumes (ap length first ∙ length-take-le n bs (omega arith)) in
+    let greens = as_many_told volume gs _ n c.offer_each.ensures.volumes (ap length first ∙ length-take-le n bs (omega arith)) in
     let second = second_half n bs even gs greens in
-    let yellows = as_many_told volume ys _ n c.offer-each-2.ensures.volumes (ap length second ∙ length-drop n bs ∙ omega (arith, even)) in
+    let yellows = as_many_told volume ys _ n c.offer_each-2.ensures.volumes (ap length second ∙ length-drop n bs ∙ omega (arith, even)) in
     let same = ap (λ xs. counts_of (map count (mid_of 0 (n - 0) bs)) (map count xs)) (second_half_before n bs even ∙ sym second) in
     record {
-      volumes = told_in_halves n bs even gs greens volume ys yellows ∙ ap (λ xs. xs ++ map volume ys) c.offer-each.ensures.volumes ∙ ap (λ xs. map volume (mid_of 0 (n - 0) bs) ++ xs) c.offer-each-2.ensures.volumes ∙ kept_in_halves volume count p c.args.time n many bs _ _ c.requires.volumes even first second volume;
-      counts = told_in_halves n bs even gs greens count ys yellows ∙ grown_in_halves volume count p c.args.time n many bs _ _ c.requires.volumes even first second _ c.work-out-gains.result.green c.work-out-gains.result.yellow (map count gs) (map count ys) same c.work-out-gains.ensures.green c.work-out-gains.ensures.yellow c.offer-each.ensures.counts c.offer-each-2.ensures.counts;
+      volumes = told_in_halves n bs even gs greens volume ys yellows ∙ ap (λ xs. xs ++ map volume ys) c.offer_each.ensures.volumes ∙ ap (λ xs. map volume (mid_of 0 (n - 0) bs) ++ xs) c.offer_each-2.ensures.volumes ∙ kept_in_halves volume count p c.args.time n many bs _ _ c.requires.volumes even first second volume;
+      counts = told_in_halves n bs even gs greens count ys yellows ∙ grown_in_halves volume count p c.args.time n many bs _ _ c.requires.volumes even first second _ c.work_out-gains.result.green c.work_out-gains.result.yellow (map count gs) (map count ys) same c.work_out-gains.ensures.green c.work_out-gains.ensures.yellow c.offer_each.ensures.counts c.offer_each-2.ensures.counts;
     }

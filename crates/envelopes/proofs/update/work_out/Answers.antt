@@ -4,8 +4,8 @@ use Rattle.envelopes.proofs.Gained.{fits_as_read, green_fits, greens_added, yell
 use Rattle.envelopes.proofs.update.work_out.Given as given
 use Rattle.envelopes.proofs.update.work_out.Goals as goal
 
-pub flow-down-requires : goal.flow-down-requires
-flow-down-requires g c =
+pub flow_down-requires : goal.flow_down-requires
+flow_down-requires g c =
     let fits = fits_as_read g.B.Bucket.count c.args.rows.now c.args.cf0 c.args.greens.now c.args.yellows.now c.requires.greens c.requires.yellows in
     let many = length-map c.args.rows.now (λ r. r.flow) in
     record {
@@ -15,15 +15,15 @@ flow-down-requires g c =
       income = green_fits _ c.args.time _ fits c.requires.rates c.requires.day _ (omega (arith, c.requires.few));
     }
 
-pub flow-down-requires-2 : goal.flow-down-requires-2
-flow-down-requires-2 g c =
+pub flow_down-requires-2 : goal.flow_down-requires-2
+flow_down-requires-2 g c =
     let fits = fits_as_read g.B.Bucket.count c.args.rows.now c.args.cf0 c.args.greens.now c.args.yellows.now c.requires.greens c.requires.yellows in
     let many = length-map c.args.rows.now (λ r. r.flow) in
     record {
       few = c.requires.few;
       even = c.requires.yellows;
       day = c.requires.day;
-      income = yellow_fits _ c.args.time _ fits c.requires.rates c.requires.day _ (omega (arith, c.requires.few)) _ (sym many) _ c.flow-down.ensures.over c.requires.some _ c.only-if-top.ensures c.requires.flags;
+      income = yellow_fits _ c.args.time _ fits c.requires.rates c.requires.day _ (omega (arith, c.requires.few)) _ (sym many) _ c.flow_down.ensures.over c.requires.some _ c.only_if-top.ensures c.requires.flags;
     }
 
 pub returns : goal.returns
@@ -31,6 +31,6 @@ returns g c =
     let fits = fits_as_read g.B.Bucket.count c.args.rows.now c.args.cf0 c.args.greens.now c.args.yellows.now c.requires.greens c.requires.yellows in
     let many = length-map c.args.rows.now (λ r. r.flow) in
     record {
-      green = greens_added _ c.args.time _ fits c.requires.rates c.requires.day _ (omega (arith, c.requires.few)) (length c.args.rows.now) c.flow-down.result.added c.flow-down.ensures.added;
-      yellow = yellows_added _ c.args.time _ fits c.requires.rates c.requires.day _ (omega (arith, c.requires.few)) _ (sym many) _ c.flow-down.ensures.over c.requires.some _ c.only-if-top.ensures _ c.flow-down-2.ensures.added;
+      green = greens_added _ c.args.time _ fits c.requires.rates c.requires.day _ (omega (arith, c.requires.few)) (length c.args.rows.now) c.flow_down.result.added c.flow_down.ensures.added;
+      yellow = yellows_added _ c.args.time _ fits c.requires.rates c.requires.day _ (omega (arith, c.requires.few)) _ (sym many) _ c.flow_down.ensures.over c.requires.some _ c.only_if-top.ensures _ c.flow_down-2.ensures.added;
     }

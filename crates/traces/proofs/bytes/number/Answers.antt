@@ -25,7 +25,7 @@ loop-byte-preserved c =
     let n = c.loop-byte.n in
     let digit : is_digit (get_or text i 0) ≡ true = grind (arith, nat_tests) in
     let more = digit_more text n i c.loop-byte-test.true digit in
-    let same : capped (10 * n + (get_or text i 0 - 48)) ≡ capped c.saturating-add-n.result = omega arith in
+    let same : capped (10 * n + (get_or text i 0 - 48)) ≡ capped c.saturating_add-n.result = omega arith in
     (omega arith, c.loop-byte.invariant.1 ∙ ap (option_map capped) more ∙ capped_alike (drop (i + 1) text) _ _ same)
 
 pub returns : goal.returns

@@ -6,7 +6,7 @@ use Rattle.envelopes.proofs.draft.Draft.open.Goals as goal
 pub returns : goal.returns
 returns c =
     record {
-      draft = c.at-start.ensures.draft;
-      latest = c.at-start.ensures.latest;
+      draft = c.at_start.ensures.draft;
+      latest = c.at_start.ensures.latest;
       shares = share_guarantee _ _ _ (profile c.args.self) (lawful c.args.self);
     }

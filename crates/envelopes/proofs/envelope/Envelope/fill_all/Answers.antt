@@ -21,8 +21,8 @@ returns-then-buckets-flows g c =
       refused = λ _. refl;
     }
 
-pub make-all-requires : goal.make-all-requires
-make-all-requires g c =
+pub make_all-requires : goal.make_all-requires
+make_all-requires g c =
     let draft = c.args.self.now.draft in
     let rows = c.rows.result.now in
     record {
@@ -38,7 +38,7 @@ returns g c =
     let many = length-map bs g.B.Bucket.volume in
     let rows = ap volumes (their_flows self.draft _ c.rows.ensures) in
     record {
-      promise = keeps_by_answer tt (fill_causes (profile self.draft) seen) _ seen (filled (profile self.draft) seen) _ (right_number (profile self.draft) seen (omega (arith, many, c.if-buckets-flows.false, c.flows.ensures))) refl (seen_by_parts _ _ _ (filled (profile self.draft) seen) refl (c.make-all.ensures.volumes ∙ rows) (c.make-all.ensures.counts ∙ rows));
+      promise = keeps_by_answer tt (fill_causes (profile self.draft) seen) _ seen (filled (profile self.draft) seen) _ (right_number (profile self.draft) seen (omega (arith, many, c.if-buckets-flows.false, c.flows.ensures))) refl (seen_by_parts _ _ _ (filled (profile self.draft) seen) refl (c.make_all.ensures.volumes ∙ rows) (c.make_all.ensures.counts ∙ rows));
       same = refl;
       refused = λ e. absurd (false_is_not_true e);
     }

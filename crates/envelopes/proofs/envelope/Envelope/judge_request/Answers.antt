@@ -10,27 +10,27 @@ use Rattle.envelopes.proofs.Kept.{keeps_by_answer, keeps_by_refusal, passed_on, 
 use Rattle.envelopes.proofs.Matched.{fitting_are_even}
 use Rattle.envelopes.proofs.envelope.Envelope.judge_request.Goals as goal
 
-pub returns-in-err-check-request : goal.returns-in-err-check-request
-returns-in-err-check-request g c =
+pub returns-in_err-check_request : goal.returns-in_err-check_request
+returns-in_err-check_request g c =
     record {
-      promise = keeps_by_refusal _ _ _ _ _ _ _ c.in-err-check-request.ensures (passed_on c.from-residual.result _ c.from-residual.ensures.1) refl;
+      promise = keeps_by_refusal _ _ _ _ _ _ _ c.in_err-check_request.ensures (passed_on c.from_residual.result _ c.from_residual.ensures.1) refl;
       draft = refl;
       refused = λ _. (refl, refl);
     }
 
-pub move-to-requires : goal.move-to-requires
-move-to-requires g c =
+pub move_to-requires : goal.move_to-requires
+move_to-requires g c =
     let self = c.args.self.now in
     let seen = sees g.B.Bucket.volume g.B.Bucket.count self.latest c.args.buckets.now in
-    let known = request_passed (profile self.draft) seen c.args.request c.in-ok-check-request.ensures in
+    let known = request_passed (profile self.draft) seen c.args.request c.in_ok-check_request.ensures in
     record { fit = known.0; later = known.3; day = known.4 }
 
 pub declare-requires : goal.declare-requires
 declare-requires g c =
     let self = c.args.self.now in
     let seen = sees g.B.Bucket.volume g.B.Bucket.count self.latest c.args.buckets.now in
-    let known = request_passed (profile self.draft) seen c.args.request c.in-ok-check-request.ensures in
-    let even = fitting_are_even g.B.Bucket.volume _ _ (c.move-to.ensures.volumes ∙ known.0) in
+    let known = request_passed (profile self.draft) seen c.args.request c.in_ok-check_request.ensures in
+    let even = fitting_are_even g.B.Bucket.volume _ _ (c.move_to.ensures.volumes ∙ known.0) in
     record {
       even = omega (arith, even, c.flows-flows.ensures);
       some_rank = known.1;
@@ -44,13 +44,13 @@ returns g c =
     let p = profile self.draft in
     let seen = sees g.B.Bucket.volume g.B.Bucket.count self.latest bs in
     let q = c.args.request in
-    let passed = c.in-ok-check-request.ensures in
+    let passed = c.in_ok-check_request.ensures in
     let fit = (request_passed p seen q passed).0 in
     let even = length-map bs g.B.Bucket.count ∙ fitting_are_even g.B.Bucket.volume bs p.flows fit in
-    let given = colour_told p seen fit even q _ c.flows-flows.ensures _ c.move-to.ensures.counts _ c.declare.ensures.value in
-    let counts = counts_left p seen fit even q _ c.flows-flows.ensures _ c.move-to.ensures.counts _ c.declare.ensures.value _ c.declare.ensures.counts in
+    let given = colour_told p seen fit even q _ c.flows-flows.ensures _ c.move_to.ensures.counts _ c.declare.ensures.value in
+    let counts = counts_left p seen fit even q _ c.flows-flows.ensures _ c.move_to.ensures.counts _ c.declare.ensures.value _ c.declare.ensures.counts in
     record {
-      promise = keeps_by_answer _ (judge_causes p seen q) _ _ (judged p seen q) _ passed (ap answered given) (seen_by_parts _ _ _ (judged p seen q) c.move-to.ensures.latest (c.declare.ensures.volumes ∙ c.move-to.ensures.volumes) counts);
-      draft = c.move-to.ensures.draft;
+      promise = keeps_by_answer _ (judge_causes p seen q) _ _ (judged p seen q) _ passed (ap answered given) (seen_by_parts _ _ _ (judged p seen q) c.move_to.ensures.latest (c.declare.ensures.volumes ∙ c.move_to.ensures.volumes) counts);
+      draft = c.move_to.ensures.draft;
       refused = λ e. absurd (false_is_not_true e);
     }

@@ -7,11 +7,11 @@ use Rattle.envelopes.proofs.Kept.{keeps_by_answer, read_passed}
 use Rattle.envelopes.proofs.Matched.{fitting_are_even}
 use Rattle.envelopes.proofs.envelope.Envelope.read_rank.Goals as goal
 
-pub counts-of-requires : goal.counts-of-requires
-counts-of-requires g c =
+pub counts_of-requires : goal.counts_of-requires
+counts_of-requires g c =
     let self = c.args.self.now in
     let seen = sees g.B.Bucket.volume g.B.Bucket.count self.latest c.args.buckets.now in
-    let known = read_passed (profile self.draft) seen c.args.rank c.in-ok-check-read.ensures in
+    let known = read_passed (profile self.draft) seen c.args.rank c.in_ok-check_read.ensures in
     let even = fitting_are_even g.B.Bucket.volume _ _ known.0 in
     record {
       even = omega (arith, even, c.flows.ensures);
@@ -24,5 +24,5 @@ returns g c =
     let self = c.args.self.now in
     let counts = map g.B.Bucket.count c.args.buckets.now in
     let seen = sees g.B.Bucket.volume g.B.Bucket.count self.latest c.args.buckets.now in
-    let told = c.counts-of.ensures ∙ ap (λ n. rank_counts (parted n counts) c.args.rank) c.flows.ensures in
-    keeps_by_answer _ (read_causes (profile self.draft) seen c.args.rank) _ seen seen _ c.in-ok-check-read.ensures (ap answered told) refl
+    let told = c.counts_of.ensures ∙ ap (λ n. rank_counts (parted n counts) c.args.rank) c.flows.ensures in
+    keeps_by_answer _ (read_causes (profile self.draft) seen c.args.rank) _ seen seen _ c.in_ok-check_read.ensures (ap answered told) refl
