@@ -5,7 +5,7 @@ ghost use Rattle.profile_a.specs.Lines.{colour_line, colour_name, counts_line, r
 
 use envelopes::colour::{Colour, Request};
 use envelopes::refusal::Refusal;
-use std::fmt;
+use std::alloc::AllocError;
 use std::fmt::Write;
 
 fn name(colour: Colour) -> &'static str
@@ -18,7 +18,7 @@ fn name(colour: Colour) -> &'static str
     }
 }
 
-pub(crate) fn write_refusal(out: &mut String, refusal: Refusal) -> Result<(), fmt::Error>
+pub(crate) fn write_refusal(out: &mut String, refusal: Refusal) -> Result<(), AllocError>
     ensures { OnOk result (string_bytes out.new ≡ string_bytes out.old ++ refusal_line (number_of_lem refusal)) }
 {
     let number = refusal.number();
@@ -30,7 +30,7 @@ fn write_colour(
     number: u64,
     request: Request,
     colour: Colour,
-) -> Result<(), fmt::Error>
+) -> Result<(), AllocError>
     ensures { OnOk result (string_bytes out.new ≡ string_bytes out.old ++ colour_line number request colour) }
 {
     let moment = request.moment;
@@ -44,7 +44,7 @@ fn write_refused_request(
     number: u64,
     request: Request,
     refusal: Refusal,
-) -> Result<(), fmt::Error>
+) -> Result<(), AllocError>
     ensures { OnOk result (string_bytes out.new ≡ string_bytes out.old ++ refused_request_line number request (number_of_lem refusal)) }
 {
     let moment = request.moment;
@@ -59,7 +59,7 @@ pub(crate) fn write_answer(
     number: u64,
     request: Request,
     answer: Result<Colour, Refusal>,
-) -> Result<(), fmt::Error>
+) -> Result<(), AllocError>
     ensures { OnOk result (string_bytes out.new ≡ string_bytes out.old ++ request_line number request (told answer)) }
 {
     match answer {
@@ -68,13 +68,13 @@ pub(crate) fn write_answer(
     }
 }
 
-fn write_counts(out: &mut String, rank: u8, green: u64, yellow: u64) -> Result<(), fmt::Error>
+fn write_counts(out: &mut String, rank: u8, green: u64, yellow: u64) -> Result<(), AllocError>
     ensures { OnOk result (string_bytes out.new ≡ string_bytes out.old ++ counts_line rank green yellow) }
 {
     writeln!(out, "rank {rank}: {green} green, {yellow} yellow grains")
 }
 
-fn write_refused_rank(out: &mut String, rank: u8, refusal: Refusal) -> Result<(), fmt::Error>
+fn write_refused_rank(out: &mut String, rank: u8, refusal: Refusal) -> Result<(), AllocError>
     ensures { OnOk result (string_bytes out.new ≡ string_bytes out.old ++ refused_rank_line rank (number_of_lem refusal)) }
 {
     let cause = refusal.number();
@@ -86,7 +86,7 @@ pub(crate) fn write_rank(
     out: &mut String,
     rank: u8,
     counts: Result<(u64, u64), Refusal>,
-) -> Result<(), fmt::Error>
+) -> Result<(), AllocError>
     ensures { OnOk result (string_bytes out.new ≡ string_bytes out.old ++ rank_line rank (told counts)) }
 {
     match counts {

@@ -12,7 +12,7 @@ use crate::profile::draft_of_a;
 use crate::requests::nth_request;
 use envelopes::colour::Request;
 use envelopes::envelope::Envelope;
-use std::fmt;
+use std::alloc::AllocError;
 use tokens::bucket::Bucket;
 
 // Judges one request, and writes its line; answers whether it was not refused.
@@ -22,7 +22,7 @@ fn judge_one<B: Bucket>(
     number: u64,
     request: Request,
     out: &mut String,
-) -> Result<bool, fmt::Error>
+) -> Result<bool, AllocError>
     ensures text { OnOk result (string_bytes out.new ≡ string_bytes out.old ++ request_line number request (judge_told (profile_of envelope.old.draft) (sees B.Bucket.volume B.Bucket.count envelope.old.latest buckets.old) request)) }
     ensures goes { IfOk result (λ b. b ≡ is_answer (judge_told (profile_of envelope.old.draft) (sees B.Bucket.volume B.Bucket.count envelope.old.latest buckets.old) request)) }
     ensures after { sees B.Bucket.volume B.Bucket.count envelope.new.latest buckets.new ≡ judge_left (profile_of envelope.old.draft) (sees B.Bucket.volume B.Bucket.count envelope.old.latest buckets.old) request }
@@ -38,7 +38,7 @@ fn judge_requests<B: Bucket>(
     envelope: &mut Envelope,
     buckets: &mut [B],
     out: &mut String,
-) -> Result<bool, fmt::Error>
+) -> Result<bool, AllocError>
     requires both { profile_of envelope.old.draft ≡ the_profile_a }
     requires full { sees B.Bucket.volume B.Bucket.count envelope.old.latest buckets.old ≡ full_at_0 the_profile_a }
     ensures text { OnOk result (string_bytes out.new ≡ string_bytes out.old ++ first_lines 6) }
@@ -61,7 +61,7 @@ fn read_one<B: Bucket>(
     buckets: &[B],
     rank: u8,
     out: &mut String,
-) -> Result<bool, fmt::Error>
+) -> Result<bool, AllocError>
     ensures text { OnOk result (string_bytes out.new ≡ string_bytes out.old ++ rank_line rank (read_told (profile_of envelope.now.draft) (sees B.Bucket.volume B.Bucket.count envelope.now.latest buckets.now) rank)) }
     ensures goes { IfOk result (λ b. b ≡ is_answer (read_told (profile_of envelope.now.draft) (sees B.Bucket.volume B.Bucket.count envelope.now.latest buckets.now) rank)) }
 {
@@ -75,7 +75,7 @@ fn read_ranks<B: Bucket>(
     envelope: &Envelope,
     buckets: &[B],
     out: &mut String,
-) -> Result<(), fmt::Error>
+) -> Result<(), AllocError>
     requires both { profile_of envelope.now.draft ≡ the_profile_a }
     requires after { sees B.Bucket.volume B.Bucket.count envelope.now.latest buckets.now ≡ seen_after 6 }
     ensures { OnOk result (string_bytes out.new ≡ string_bytes out.old ++ last_lines) }
@@ -87,7 +87,7 @@ fn read_ranks<B: Bucket>(
 }
 
 // Writes the report whole, upon four buckets of any kind.
-pub(crate) fn write_report<B: Bucket>(buckets: &mut [B], out: &mut String) -> Result<(), fmt::Error>
+pub(crate) fn write_report<B: Bucket>(buckets: &mut [B], out: &mut String) -> Result<(), AllocError>
     requires { length buckets.old ≡ 4 }
     ensures { OnOk result (string_bytes out.new ≡ string_bytes out.old ++ report_text) }
 {

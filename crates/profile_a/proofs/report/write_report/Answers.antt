@@ -12,6 +12,6 @@ returns-in_ok-read_ranks g c =
 
 pub returns-in-Err-fill : goal.returns-in-Err-fill
 returns-in-Err-fill g c =
-    let p_is = ap profile c.open_envelope.ensures.draft ∙ one_answer _ _ c.in-Ok.ensures in
+    let p_is = ap profile c.open-envelope.ensures.draft ∙ one_answer _ _ c.in-Ok.ensures in
     let four = length-map c.args.buckets.now g.B.Bucket.volume ∙ c.requires in
-    absurd (fill_goes_on _ (sees g.B.Bucket.volume g.B.Bucket.count c.open_envelope.result.latest c.args.buckets.now) _ p_is four c.in-Err-fill.ensures.promise.tells)
+    absurd (fill_goes_on _ (sees g.B.Bucket.volume g.B.Bucket.count c.open-envelope.result.latest c.args.buckets.now) _ p_is four c.in-Err-fill.ensures.promise.tells)
