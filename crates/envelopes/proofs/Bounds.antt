@@ -3,7 +3,7 @@ use Rattle.std.proofs.Common.{◌≡◌, ℕ, zero, suc, ◌+◌, ◌-◌, ◌*�
 use Rattle.std.proofs.lemmas.Bool.Decides.{nat_tests}
 use Rattle.tokens.specs.Refusals.{answered, refused}
 use Rattle.tokens.specs.Units.{grains}
-use Rattle.envelopes.specs.Colouring.{amount, colour, declared, is_green, is_yellow, place, spent}
+use Rattle.envelopes.specs.Colouring.{amount, colour, is_green, is_yellow, place, spent}
 use Rattle.envelopes.specs.Growth.{Counts, green_lanes, green_overflows, grown, handed_down, limited, risen, to_highest_yellow, yellow_lanes}
 use Rattle.envelopes.specs.Guarantee.{AllTokensStayWithinAllCountsAndRates, Between, GreenTokensStayWithinCountAndRate, declared_between, green_limit, time_between}
 use Rattle.envelopes.specs.Histories.{Event, Kind, Verdict, seen, tokens, verdict, verdicts}

@@ -1,7 +1,6 @@
 use Rattle.std.proofs.Common.{length, sym, arith}
 use lib.ListN.{length-map}
 use Rattle.envelopes.proofs.Gained.{fits_as_read, green_fits, greens_added, yellow_fits, yellows_added}
-use Rattle.envelopes.proofs.update.work_out.Given as given
 use Rattle.envelopes.proofs.update.work_out.Goals as goal
 
 pub flow_down-requires : goal.flow_down-requires
