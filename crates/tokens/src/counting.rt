@@ -1,7 +1,7 @@
 // The kind of bucket that stores its count.
 ghost use Rattle.std.specs.Prelude.{◌≤◌};
 ghost use Rattle.tokens.specs.Units.{largest_volume};
-ghost use Rattle.std.proofs.Common.{rules, arith};
+ghost use Rattle.std.proofs.Common.{rules};
 
 use crate::bucket::Bucket;
 use crate::units::grains;
@@ -19,9 +19,9 @@ impl Bucket for CountingBucket {
 
     ghost count = { λ b. b.count };
 
-    ghost within = { first_of (Prim.search rules, Prim.grind (arith, Self.row.coded.inj)) };
+    ghost within = { Prim.search rules };
 
-    ghost bounded = { first_of (Prim.search rules, Prim.grind (arith, Self.row.coded.inj)) };
+    ghost bounded = { Prim.search rules };
 
     fn make(tokens: u32) -> Self {
         let volume = grains(tokens);

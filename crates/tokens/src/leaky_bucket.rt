@@ -1,7 +1,7 @@
 // The leaky bucket: a meter that stores its backlog, which is what is missing from a full one.
 ghost use Rattle.std.specs.Prelude.{◌≡◌, ◌-◌, ◌*◌, ◌≤◌};
 ghost use Rattle.tokens.specs.Units.{grains as in_grains, day_end};
-ghost use Rattle.std.proofs.Common.{rules, arith};
+ghost use Rattle.std.proofs.Common.{rules};
 
 use crate::checks::{check_moment, check_packet};
 use crate::limits::Limits;
@@ -33,7 +33,7 @@ impl LeakyBucket {
 impl Meter for LeakyBucket {
     ghost meaning = { λ m. record { rate = m.limits.rate; burst = m.limits.burst; latest = m.latest; level = in_grains m.limits.burst - m.backlog } };
 
-    ghost sound = { first_of (Prim.search rules, Prim.grind (arith, Self.row.coded.inj)) };
+    ghost sound = { Prim.search rules };
 
     fn new(rate: u64, burst: u64) -> Result<Self, Refusal> {
         let limits = Limits::new(rate, burst)?;

@@ -2,7 +2,7 @@
 // rate, so that it is whole grains.
 ghost use Rattle.std.specs.Prelude.{◌≡◌, ◌+◌, ◌-◌, ◌*◌, ◌≤◌};
 ghost use Rattle.tokens.specs.Units.{grains as in_grains, day_end, highest_rate};
-ghost use Rattle.std.proofs.Common.{rules, arith};
+ghost use Rattle.std.proofs.Common.{rules};
 
 use crate::checks::{check_moment, check_packet};
 use crate::limits::Limits;
@@ -35,7 +35,7 @@ impl VirtualScheduling {
 impl Meter for VirtualScheduling {
     ghost meaning = { λ m. record { rate = m.limits.rate; burst = m.limits.burst; latest = m.latest; level = in_grains m.limits.burst - (m.due - m.limits.rate * m.latest) } };
 
-    ghost sound = { first_of (Prim.search rules, Prim.grind (arith, Self.row.coded.inj)) };
+    ghost sound = { Prim.search rules };
 
     fn new(rate: u64, burst: u64) -> Result<Self, Refusal> {
         let limits = Limits::new(rate, burst)?;
