@@ -1,7 +1,7 @@
 -- What holds of the rows of every draft. Assumes nothing.
 use Rattle.std.proofs.Common.{◌≡◌, ℕ, ◌≤◌, Bool, false, ◌&&◌, List, [], ◌∷◌, length, take, sym, ap, ◌∙◌, arith}
 use lib.ListN.{length-map}
-use Rattle.std.specs.List.{AllByRecursion as All}
+use Rattle.std.specs.List.{AllByRecursion}
 use Rattle.tokens.specs.Units.{highest_rate}
 use Rattle.envelopes.specs.Drafts.{profile}
 use Rattle.envelopes.specs.Growth.{grown}
@@ -38,7 +38,7 @@ module _ (d : Draft) (rows : List Row) (told : rows ≡ take d.len d.rows) where
   grown_as_drafted cf0 time counts flag =
       ap (λ n. grown (read_as cf0) time (parted n counts)) as_many_rows ∙ ap (λ b. grown (read_as b) time (parted (length (profile d).flows) counts)) flag ∙ ap (λ fs. grown (record { flows = fs; cf0 = d.cf0 }) time (parted (length (profile d).flows) counts)) their_flows
 
-all_reach : (rows : List Row) → All (λ f. ReachesItsRate f.green) (flows rows)
+all_reach : (rows : List Row) → AllByRecursion (λ f. ReachesItsRate f.green) (flows rows)
 all_reach [] = tt
 all_reach (r ∷ rows) = (r.green_reaches, all_reach rows)
 

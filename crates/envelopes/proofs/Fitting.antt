@@ -2,7 +2,7 @@
 use Rattle.std.proofs.Common.{◌≡◌, ℕ, ◌+◌, List, [], ◌∷◌, map, length, get_or, sym, refl, ap, ◌∙◌, mul-zero, arith}
 use Rattle.std.proofs.lemmas.Bool.Decides.{nat_tests}
 use lib.ListN.{length-map}
-use Rattle.std.specs.List.{AllByRecursion as All}
+use Rattle.std.specs.List.{AllByRecursion}
 use Rattle.envelopes.specs.Colouring.{spent}
 use Rattle.envelopes.specs.Growth.{Counts, added, green_lanes, green_overflows, grown, handed_down, overflow, overflows, risen, to_highest_yellow, yellow_lanes}
 use Rattle.envelopes.specs.Profiles.{Profile}
@@ -67,10 +67,10 @@ module _ (p : Profile) (k : Counts) (fit : Fits p k) where
 
 record Still (ls : List Lane) : Type 0 where
   handed : handed_down 0 0 ls ≡ 0
-  over : All (λ o. o ≡ 0) (overflows 0 0 ls)
+  over : AllByRecursion (λ o. o ≡ 0) (overflows 0 0 ls)
   counts : risen 0 0 ls ≡ held ls
 
-nothing_comes_in_no_time : (ls : List Lane) → All (λ l. l.besides ≡ 0) ls → Still ls
+nothing_comes_in_no_time : (ls : List Lane) → AllByRecursion (λ l. l.besides ≡ 0) ls → Still ls
 nothing_comes_in_no_time [] none = record { handed = refl; over = tt; counts = refl }
 nothing_comes_in_no_time (l ∷ ls) none =
     let above = nothing_comes_in_no_time ls none.1 in
@@ -84,19 +84,19 @@ nothing_comes_in_no_time (l ∷ ls) none =
       counts = cc (count, above.counts);
     }
 
-nothing_besides_green : (fs : List Flow) (cs : List ℕ) → All (λ l. l.besides ≡ 0) (green_lanes fs cs)
+nothing_besides_green : (fs : List Flow) (cs : List ℕ) → AllByRecursion (λ l. l.besides ≡ 0) (green_lanes fs cs)
 nothing_besides_green [] cs = tt
 nothing_besides_green (f ∷ fs) [] = tt
 nothing_besides_green (f ∷ fs) (c ∷ cs) = (refl, nothing_besides_green fs cs)
 
-nothing_besides_yellow : (fs : List Flow) (os cs : List ℕ) → All (λ o. o ≡ 0) os → All (λ l. l.besides ≡ 0) (yellow_lanes fs os cs)
+nothing_besides_yellow : (fs : List Flow) (os cs : List ℕ) → AllByRecursion (λ o. o ≡ 0) os → AllByRecursion (λ l. l.besides ≡ 0) (yellow_lanes fs os cs)
 nothing_besides_yellow [] os cs over = tt
 nothing_besides_yellow (f ∷ fs) [] cs over = tt
 nothing_besides_yellow (f ∷ fs) (o ∷ os) [] over = tt
 nothing_besides_yellow (f ∷ fs) (o ∷ os) (c ∷ cs) over =
     (let none = over.0 in grind (arith, nat_tests), nothing_besides_yellow fs os cs over.1)
 
-first_of_nothings : (os : List ℕ) → All (λ o. o ≡ 0) os → get_or os 0 0 ≡ 0
+first_of_nothings : (os : List ℕ) → AllByRecursion (λ o. o ≡ 0) os → get_or os 0 0 ≡ 0
 first_of_nothings [] none = refl
 first_of_nothings (o ∷ os) none = none.0
 

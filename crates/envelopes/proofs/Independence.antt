@@ -1,7 +1,7 @@
 -- Stories with the same requests from a rank up colour those alike where they have the same moments, and where no flow
 -- from that rank up has a maximum. Assumes nothing.
 use Rattle.std.proofs.Common.{◌≡◌, ℕ, ◌+◌, ◌-◌, ◌<◌, ◌≤◌, Bool, List, [], ◌∷◌, drop, sym, refl, ap, ◌∙◌, arith}
-use Rattle.std.specs.List.{AllByRecursion as All}
+use Rattle.std.specs.List.{AllByRecursion}
 use Rattle.envelopes.specs.Colouring.{colour, spent}
 use Rattle.envelopes.specs.Growth.{Counts, grown}
 use Rattle.envelopes.specs.Guarantee.{ColouredAlike, FilledOnce, LowerFlowsDoNotChangeColoursAbove, NoMaximum, WithoutMaximaOtherMomentsDoNotMatter, shared}
@@ -48,7 +48,7 @@ asked_only u i latest x (q ∷ qs) =
     record { request = q; given = colour (raised i q) y } ∷
     asked_only u i q.moment (spent (raised i q) (colour (raised i q) y) y) qs
 
-module _ (p : Profile) (i : ℕ) (unlimited : All NoMaximum (drop i p.flows)) where
+module _ (p : Profile) (i : ℕ) (unlimited : AllByRecursion NoMaximum (drop i p.flows)) where
   abbrev u : Profile
   u = above i p
 

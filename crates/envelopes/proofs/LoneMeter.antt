@@ -3,7 +3,7 @@ use Rattle.std.proofs.Common.{◌≡◌, ℕ, zero, suc, ◌+◌, ◌-◌, ◌*�
 use native.Mathlib.Nat.{sub_self}
 use lib.Seq.{drop-nil}
 use Rattle.std.proofs.lemmas.Bool.Decides.{nat_tests}
-use Rattle.std.specs.List.{AllByRecursion as All}
+use Rattle.std.specs.List.{AllByRecursion}
 use Rattle.tokens.specs.Histories.{History, Kept}
 use Rattle.tokens.specs.Meters.{Metered, level_at, less, moved}
 use Rattle.tokens.specs.Refusals.{answered, refused}
@@ -42,7 +42,7 @@ rate_gets_through (Some maximum) rate time more reached =
     let product : rate * time ≤ maximum * time = mul-le-mul below (omega arith) in omega arith
 
 -- a green count grows at least at its rate, up to the volume
-grows_at_its_rate : (i : ℕ) (fs : List Flow) (cs : List ℕ) (flow : Flow) (above : List Flow) (time : ℕ) → drop i fs ≡ flow ∷ above → length cs ≡ length fs → All (λ f. ReachesItsRate f.green) fs → min (grains flow.green.volume) (get_or cs i 0 + flow.green.rate * time) ≤ get_or (risen time 0 (green_lanes fs cs)) i 0
+grows_at_its_rate : (i : ℕ) (fs : List Flow) (cs : List ℕ) (flow : Flow) (above : List Flow) (time : ℕ) → drop i fs ≡ flow ∷ above → length cs ≡ length fs → AllByRecursion (λ f. ReachesItsRate f.green) fs → min (grains flow.green.volume) (get_or cs i 0 + flow.green.rate * time) ≤ get_or (risen time 0 (green_lanes fs cs)) i 0
 grows_at_its_rate i [] cs flow above time here long reached = let none = drop-nil {A = Flow} i in grind (arith, nat_tests)
 grows_at_its_rate i (f ∷ fs) [] flow above time here long reached = absurd (omega arith)
 grows_at_its_rate zero (f ∷ fs) (c ∷ cs) flow above time here long reached =
@@ -130,7 +130,7 @@ module _ (p : Profile) (lawful : Lawful p) (i : ℕ) (flow : Flow) (above : List
 
   module _ {M : Type 0} (meaning : M → Metered) (last : M) where
     abbrev AllGreenFrom : List Verdict → State → Type 0
-    AllGreenFrom vs s = (level since : ℕ) (meter : M) → meaning meter ≡ metered level since → Backed level since s → History meaning meter (map passed_charge vs) last → All (λ v. v.given ≡ Green) vs
+    AllGreenFrom vs s = (level since : ℕ) (meter : M) → meaning meter ≡ metered level since → Backed level since s → History meaning meter (map passed_charge vs) last → AllByRecursion (λ v. v.given ≡ Green) vs
 
     one_verdict_more : (s : State) (q : Request) (given : Colour) → Asked p s q given → (vs : List Verdict) → AllGreenFrom vs (record { latest = q.moment; counts = spent q given (at p s q.moment) }) → (own : Bool) → of_flow i q ≡ own → AllGreenFrom (cond own (record { request = q; given = given } ∷ vs) vs) s
     one_verdict_more s q given asked vs rest false other level since meter means b h = rest level since meter means (other_keeps_backed level since s q given asked b other) h

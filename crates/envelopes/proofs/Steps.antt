@@ -3,7 +3,7 @@
 use Rattle.std.proofs.Common.{◌≡◌, ℕ, ◌+◌, ◌-◌, Bool, true, false, cond, List, [], ◌∷◌, length, sym, refl, ap, ◌∙◌, subst, arith, length-append, length-drop, length-take, take_at, drop_at}
 use lib.ListN.{length-map}
 use Rattle.std.proofs.lemmas.Bool.Decides.{nat_tests}
-use Rattle.std.specs.List.{AllByRecursion as All}
+use Rattle.std.specs.List.{AllByRecursion}
 use Rattle.tokens.specs.Refusals.{Cause, answered, refused, unless_refused}
 use Rattle.envelopes.specs.Growth.{Counts}
 use Rattle.envelopes.specs.Histories.{accepted, accepted_fill}
@@ -17,7 +17,7 @@ use Rattle.envelopes.proofs.Stories.{Fits, Step, at, full, just_filled, next, st
 -- What an accepted call tells and leaves.
 
 abbrev NoneApplies : List Cause → Type 0
-NoneApplies causes = All (λ c. c.applies ≡ false) causes
+NoneApplies causes = AllByRecursion (λ c. c.applies ≡ false) causes
 
 answers_where_none_applies : {A : Type 0} (causes : List Cause) (answer given : A) → answered given ≡ unless_refused causes answer → NoneApplies causes × (given ≡ answer)
 answers_where_none_applies [] answer given told = (tt, cc)

@@ -1,7 +1,7 @@
 -- Growth in two times, where nothing has a maximum, is growth in both together. Assumes nothing.
 use Rattle.std.proofs.Common.{◌≡◌, ℕ, ◌+◌, false, List, [], ◌∷◌, None, refl, ap, mul-add, arith}
 use Rattle.std.proofs.lemmas.Bool.Decides.{nat_tests}
-use Rattle.std.specs.List.{AllByRecursion as All}
+use Rattle.std.specs.List.{AllByRecursion}
 use Rattle.envelopes.specs.Growth.{Counts, added, coming, green_lanes, grown, handed_down, limited, overflow, overflows, risen, yellow_lanes}
 use Rattle.envelopes.specs.Guarantee.{NoMaximum}
 use Rattle.envelopes.specs.Profiles.{Profile}
@@ -57,13 +57,13 @@ module _ (s t : ℕ) where
           counts = cc (count, above.counts);
         }
 
-  greens_add_up : (fs : List Flow) (cs : List ℕ) → All NoMaximum fs → AddsUp (green_lanes fs cs) (green_lanes fs (risen s 0 (green_lanes fs cs))) (green_lanes fs cs)
+  greens_add_up : (fs : List Flow) (cs : List ℕ) → AllByRecursion NoMaximum fs → AddsUp (green_lanes fs cs) (green_lanes fs (risen s 0 (green_lanes fs cs))) (green_lanes fs cs)
   greens_add_up [] cs unlimited = none_adds_up
   greens_add_up (f ∷ fs) [] unlimited = none_adds_up
   greens_add_up (f ∷ fs) (c ∷ cs) unlimited =
       one_more_adds_up _ unlimited.0.0 0 0 refl _ _ _ (greens_add_up fs cs unlimited.1)
 
-  yellows_add_up : (fs : List Flow) {ms ns os : List ℕ} (cs : List ℕ) → All NoMaximum fs → Sums ms ns os → AddsUp (yellow_lanes fs ms cs) (yellow_lanes fs ns (risen s 0 (yellow_lanes fs ms cs))) (yellow_lanes fs os cs)
+  yellows_add_up : (fs : List Flow) {ms ns os : List ℕ} (cs : List ℕ) → AllByRecursion NoMaximum fs → Sums ms ns os → AddsUp (yellow_lanes fs ms cs) (yellow_lanes fs ns (risen s 0 (yellow_lanes fs ms cs))) (yellow_lanes fs os cs)
   yellows_add_up [] cs unlimited sums = none_adds_up
   yellows_add_up (f ∷ fs) cs unlimited none = none_adds_up
   yellows_add_up (f ∷ fs) [] unlimited (more sum sums) = none_adds_up
@@ -71,7 +71,7 @@ module _ (s t : ℕ) where
       one_more_adds_up _ unlimited.0.1 _ _ (grind (arith, nat_tests)) _ _ _ (yellows_add_up fs cs unlimited.1 sums)
 
 -- without maxima, and where CF0 is 0
-pub growth_in_two_times_adds_up : (s t : ℕ) (fs : List Flow) (k : Counts) → All NoMaximum fs → let p : Profile = record { flows = fs; cf0 = false } in grown p (s + t) k ≡ grown p t (grown p s k)
+pub growth_in_two_times_adds_up : (s t : ℕ) (fs : List Flow) (k : Counts) → AllByRecursion NoMaximum fs → let p : Profile = record { flows = fs; cf0 = false } in grown p (s + t) k ≡ grown p t (grown p s k)
 growth_in_two_times_adds_up s t fs k unlimited =
     let greens = greens_add_up s t fs k.greens unlimited in
     let yellows = yellows_add_up s t fs k.yellows unlimited greens.over in

@@ -1,7 +1,7 @@
 -- The share guarantee: what holds of every history upon an envelope just opened, whatever the kind of its buckets.
 -- Assumes nothing.
 use Rattle.std.specs.Prelude.{◌≡◌, ℕ, suc, ◌+◌, ◌-◌, ◌*◌, ◌<◌, ◌≤◌, Bool, true, false, ◌&&◌, ◌||◌, List, [], ◌∷◌, ◌++◌, map, length, drop, None, ◌==◌, nat_le, slice_index}
-use Rattle.std.specs.List.{AllByRecursion as All}
+use Rattle.std.specs.List.{AllByRecursion}
 use Rattle.tokens.specs.Histories.{History, Event as MeterEvent}
 use Rattle.tokens.specs.Meters.{Metered, fresh}
 use Rattle.tokens.specs.Refusals.{answered}
@@ -85,7 +85,7 @@ WhatALoneMeterPassesIsGreen {B} {M} kind meaning p =
     (i : ℕ) (flow : Flow) (above : List Flow) → drop i p.flows ≡ flow ∷ above →
     (meter last : M) → meaning meter ≡ fresh flow.green.rate flow.green.volume →
     History meaning meter (map passed_charge (asking_green i later)) last →
-    All (λ v. v.given ≡ Green) (asking_green i later)
+    AllByRecursion (λ v. v.given ≡ Green) (asking_green i later)
 
 -- Independence of the flows below.
 
@@ -130,7 +130,7 @@ NoMaximum f = (f.green.maximum ≡ None) × (f.yellow.maximum ≡ None)
 abbrev pub WithoutMaximaOtherMomentsDoNotMatter : {B C : Type 0} → Kind B → Kind C → Profile → Type 0
 WithoutMaximaOtherMomentsDoNotMatter {B} {C} b_kind c_kind p =
     (es : List (Event B)) (fs : List (Event C)) → FilledOnce b_kind p es → FilledOnce c_kind p fs →
-    (i : ℕ) → All NoMaximum (drop i p.flows) → requests (shared i es) ≡ requests (shared i fs) →
+    (i : ℕ) → AllByRecursion NoMaximum (drop i p.flows) → requests (shared i es) ≡ requests (shared i fs) →
     ColouredAlike p.cf0 (shared i es) (shared i fs)
 
 -- The whole, for buckets of two kinds and a form of meter.

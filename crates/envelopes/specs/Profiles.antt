@@ -1,7 +1,7 @@
 -- A profile: the flows by rank, rank 1 first, and the coupling flag CF0 of the whole; its rates and flags.
 -- Assumes nothing.
 use Rattle.std.specs.Prelude.{◌≡◌, ℕ, ◌+◌, ◌≤◌, min, Bool, false, ◌&&◌, ◌||◌, List, [], ◌∷◌, map, Some, None, Option}
-use Rattle.std.specs.List.{AllByRecursion as All}
+use Rattle.std.specs.List.{AllByRecursion}
 use Rattle.envelopes.specs.declared.flow.Flow.{Flow}
 use Rattle.envelopes.specs.declared.flow.Supply.{Supply}
 
@@ -42,4 +42,4 @@ ReachesItsRate s = s.rate ≤ at_most s.maximum s.rate
 -- two things that hold of every profile that a draft can have, and on which the share guarantee rests
 pub record Lawful (p : Profile) : Type 0 where
   pub not_both_flags : (p.cf0 && coupled p.flows) ≡ false
-  pub green_rates_reached : All (λ f. ReachesItsRate f.green) p.flows
+  pub green_rates_reached : AllByRecursion (λ f. ReachesItsRate f.green) p.flows

@@ -1,7 +1,7 @@
 -- What a meter lets pass: one call, and any history of calls. Assumes nothing.
 use Rattle.std.proofs.Common.{◌≡◌, ℕ, ◌+◌, ◌-◌, ◌*◌, ◌<◌, ◌≤◌, List, [], ◌∷◌, sym, refl, ap, ◌∙◌, subst, arith}
 use Rattle.std.proofs.lemmas.Bool.Decides.{nat_tests}
-use Rattle.std.specs.List.{AllByRecursion as All}
+use Rattle.std.specs.List.{AllByRecursion}
 use Rattle.tokens.specs.Histories.{Event, History, PassedWithinLevelAndRate, LargerThanBurstNeverPasses, KeepsToLimits, answer, after, charged_tokens, if_yes, tokens_of}
 use Rattle.tokens.specs.Meters.{Metered}
 use Rattle.tokens.specs.Refusals.{answered}
@@ -52,7 +52,7 @@ module _ {M : Type 0} (meaning : M → Metered) where
       let step = one_call (meaning first) e.call in
       let burst = ap (λ m. m.burst) h.1.leaves ∙ step.burst in (
         λ larger passes. step.smaller larger (sym h.1.tells ∙ passes),
-        subst (λ (b : ℕ). All (λ x. b < tokens_of x.call → x.told ≡ answered Yes → ⊥) es) burst (larger_never_passes h.0 last es h.2),
+        subst (λ (b : ℕ). AllByRecursion (λ x. b < tokens_of x.call → x.told ≡ answered Yes → ⊥) es) burst (larger_never_passes h.0 last es h.2),
       )
 
   pub keeps_to_limits : KeepsToLimits meaning

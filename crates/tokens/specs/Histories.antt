@@ -1,6 +1,6 @@
 -- Lists of calls upon a meter, and what holds of them whatever the form of the meter. Assumes nothing.
 use Rattle.std.specs.Prelude.{◌≡◌, ℕ, ◌+◌, ◌-◌, ◌*◌, ◌<◌, ◌≤◌, cond, List, [], ◌∷◌, map, ◌≢◌}
-use Rattle.std.specs.List.{AllByRecursion as All}
+use Rattle.std.specs.List.{AllByRecursion}
 use Rattle.tokens.specs.Meters.{Metered, fresh, packet_told, wait_told, charged, waited}
 use Rattle.tokens.specs.Refusals.{Told, answered, refused}
 use Rattle.tokens.specs.Units.{grains}
@@ -74,7 +74,7 @@ tokens_of (Wait moment) = 0
 abbrev pub LargerThanBurstNeverPasses : {M : Type 0} → (M → Metered) → Type 0
 LargerThanBurstNeverPasses {M} meaning =
     (first last : M) (es : List Event) → History meaning first es last →
-    All (λ e. (meaning first).burst < tokens_of e.call → e.told ≢ answered Yes) es
+    AllByRecursion (λ e. (meaning first).burst < tokens_of e.call → e.told ≢ answered Yes) es
 
 pub record KeepsToLimits {M : Type 0} (meaning : M → Metered) : Type 0 where
   pub passed_within_level_and_rate : PassedWithinLevelAndRate meaning
