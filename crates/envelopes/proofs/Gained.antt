@@ -106,7 +106,7 @@ yellow_volumes (f ∷ fs) (o ∷ os) [] over fit = absurd (omega arith)
 yellow_volumes (f ∷ fs) (o ∷ os) (c ∷ cs) over fit = ap (λ vs. grains f.yellow.volume ∷ vs) (yellow_volumes fs os cs (omega arith) (omega arith))
 
 -- both columns, each bucket offered what it adds, have grown
-module _ (p : Profile) (time n : ℕ) (as_many : n ≡ length p.flows) (vs cs : List ℕ) (fit : vs ≡ volumes p.flows) (AllThere : length cs ≡ n + n) where
+module _ (p : Profile) (time n : ℕ) (as_many : n ≡ length p.flows) (vs cs : List ℕ) (fit : vs ≡ volumes p.flows) (all_there : length cs ≡ n + n) where
   abbrev k : Counts
   k = parted n cs
 
@@ -133,7 +133,7 @@ module _ (p : Profile) (time n : ℕ) (as_many : n ≡ length p.flows) (vs cs : 
       ap (λ xs. xs ++ offered (drop n vs) (drop n cs) yellows) greens_risen ∙ ap (λ ys. risen time 0 (green_lanes p.flows k.greens) ++ ys) yellows_risen
 
 -- as the code tells it: of the buckets `bs` the first half is lent and comes back as `gs`, and then the second as `ys`
-module _ {B : Type 0} (volume count : B → ℕ) (p : Profile) (time n : ℕ) (as_many : n ≡ length p.flows) (bs first second : List B) (fit : map volume bs ≡ volumes p.flows) (AllThere : length bs ≡ n + n) (first_is : first ≡ take n bs) (second_is : second ≡ drop n bs) where
+module _ {B : Type 0} (volume count : B → ℕ) (p : Profile) (time n : ℕ) (as_many : n ≡ length p.flows) (bs first second : List B) (fit : map volume bs ≡ volumes p.flows) (all_there : length bs ≡ n + n) (first_is : first ≡ take n bs) (second_is : second ≡ drop n bs) where
   pub kept_in_halves : (tell : B → ℕ) → map tell first ++ map tell second ≡ map tell bs
   kept_in_halves tell =
       ap (λ xs. map tell xs ++ map tell second) first_is ∙ ap (λ xs. map tell (take n bs) ++ map tell xs) second_is ∙ sym (map-append tell (take n bs) (drop n bs)) ∙ ap (map tell) (take-append-drop n bs)
@@ -147,5 +147,5 @@ module _ {B : Type 0} (volume count : B → ℕ) (p : Profile) (time n : ℕ) (a
   pub grown_in_halves : (before : Counts) (greens yellows gs ys : List ℕ) → before ≡ record { greens = map count first; yellows = map count second } → take n greens ≡ green_additions p time before → take n yellows ≡ yellow_additions p time before → gs ≡ offered (map volume first) (map count first) greens → ys ≡ offered (map volume second) (map count second) yellows → gs ++ ys ≡ in_a_row (grown p time (parted n (map count bs)))
   grown_in_halves before greens yellows gs ys was green yellow green_told yellow_told =
       let k : before ≡ parted n (map count bs) = was ∙ ap (λ xs. record { greens = xs; yellows = map count second }) (told_of_first count) ∙ ap (λ xs. record { greens = take n (map count bs); yellows = xs }) (told_of_second count) in
-      let grows = offered_is_grown p time n as_many (map volume bs) (map count bs) fit (length-map bs count ∙ AllThere) greens yellows (green ∙ ap (green_additions p time) k) (yellow ∙ ap (yellow_additions p time) k) in
+      let grows = offered_is_grown p time n as_many (map volume bs) (map count bs) fit (length-map bs count ∙ all_there) greens yellows (green ∙ ap (green_additions p time) k) (yellow ∙ ap (yellow_additions p time) k) in
       cc (told_of_first volume, told_of_first count, told_of_second volume, told_of_second count)

@@ -5,7 +5,7 @@ use mathlib.Core.List.{map-append}
 use lib.ListN.{length-map}
 use Rattle.std.proofs.lemmas.List.{drop_all}
 
-module _ {B : Type 0} (n : ℕ) (bs : List B) (AllThere : length bs ≡ n + n) where
+module _ {B : Type 0} (n : ℕ) (bs : List B) (all_there : length bs ≡ n + n) where
   pub first_half : mid_of 0 (n - 0) bs ≡ take n bs
   first_half = ap (λ m. take m bs) (omega arith)
 

@@ -36,8 +36,8 @@ fn work_out<B: Bucket>(rows: &[Row], cf0: bool, time: u64, greens: &[B], yellows
     requires rates { all_rates (flows rows.now) ≤ highest_rate }
     requires flags { (cf0 && coupled (flows rows.now)) ≡ false }
     requires day { time ≤ day_end }
-    ensures green { take (length rows.now) result.green ≡ green_additions (record { flows = flows rows.now; cf0 = cf0 }) time (record { greens = map B.Bucket.count greens.entry.now; yellows = map B.Bucket.count yellows.now }) }
-    ensures yellow { take (length rows.now) result.yellow ≡ yellow_additions (record { flows = flows rows.now; cf0 = cf0 }) time (record { greens = map B.Bucket.count greens.entry.now; yellows = map B.Bucket.count yellows.now }) }
+    ensures green { take (length rows.now) result.green ≡ green_additions (record { flows = flows rows.now; cf0 = cf0 }) time (record { greens = map B.Bucket.count greens.now; yellows = map B.Bucket.count yellows.now }) }
+    ensures yellow { take (length rows.now) result.yellow ≡ yellow_additions (record { flows = flows rows.now; cf0 = cf0 }) time (record { greens = map B.Bucket.count greens.now; yellows = map B.Bucket.count yellows.now }) }
 {
     let Flowed { added: green, over } = flow_down(Column::Green, rows, [0; 8], time, 0, greens);
     let top = only_if(cf0, over[0]);

@@ -1,6 +1,6 @@
 // The lines that the program prints.
 ghost use Rattle.std.specs.Prelude.{◌≡◌, ◌++◌, string_bytes, OnOk};
-ghost use Rattle.envelopes.specs.Refusals.{number as number_of_lem, told};
+ghost use Rattle.envelopes.specs.Refusals.{number as number_of, told};
 ghost use Rattle.profile_a.specs.Lines.{colour_line, colour_name, counts_line, rank_line, refusal_line, refused_rank_line, refused_request_line, request_line};
 
 use envelopes::colour::{Colour, Request};
@@ -19,7 +19,7 @@ fn name(colour: Colour) -> &'static str
 }
 
 pub(crate) fn write_refusal(out: &mut String, refusal: Refusal) -> Result<(), AllocError>
-    ensures { OnOk result (string_bytes out.new ≡ string_bytes out.old ++ refusal_line (number_of_lem refusal)) }
+    ensures { OnOk result (string_bytes out.new ≡ string_bytes out.old ++ refusal_line (number_of refusal)) }
 {
     let number = refusal.number();
     writeln!(out, "refused {number}")
@@ -45,7 +45,7 @@ fn write_refused_request(
     request: Request,
     refusal: Refusal,
 ) -> Result<(), AllocError>
-    ensures { OnOk result (string_bytes out.new ≡ string_bytes out.old ++ refused_request_line number request (number_of_lem refusal)) }
+    ensures { OnOk result (string_bytes out.new ≡ string_bytes out.old ++ refused_request_line number request (number_of refusal)) }
 {
     let moment = request.moment;
     let rank = request.rank;
@@ -75,7 +75,7 @@ fn write_counts(out: &mut String, rank: u8, green: u64, yellow: u64) -> Result<(
 }
 
 fn write_refused_rank(out: &mut String, rank: u8, refusal: Refusal) -> Result<(), AllocError>
-    ensures { OnOk result (string_bytes out.new ≡ string_bytes out.old ++ refused_rank_line rank (number_of_lem refusal)) }
+    ensures { OnOk result (string_bytes out.new ≡ string_bytes out.old ++ refused_rank_line rank (number_of refusal)) }
 {
     let cause = refusal.number();
     writeln!(out, "rank {rank}: refused {cause}")
