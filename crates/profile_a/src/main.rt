@@ -9,10 +9,11 @@ mod requests;
 use crate::report::write_report;
 use std::io::Write;
 use tokens::bucket::Bucket;
+use tokens::counting::CountingBucket;
 
 fn run(rt: &HostRuntime) -> anyhow::Result<()> {
     let mut text = String::new(rt.alloc());
-    let mut buckets = [<tokens::counting::CountingBucket as Bucket>::make(0); 4];
+    let mut buckets = [CountingBucket::make(0); 4];
     write_report(&mut buckets, &mut text)?;
     rt.stdout().write_all(text.as_bytes())?;
     Ok(())

@@ -12,7 +12,10 @@ use std::alloc::{AllocError, Global};
 use std::error::Error;
 use std::fmt;
 use std::fmt::Write;
+use tokens::leaky_bucket::LeakyBucket;
 use tokens::meter::Meter;
+use tokens::token_bucket::TokenBucket;
+use tokens::virtual_scheduling::VirtualScheduling;
 
 /// How a run ends: after the last packet, at a refusal, or at a line (counted from 1) that is no packet.
 #[derive(Clone, Copy, PartialEq, Eq, Debug)]
@@ -169,11 +172,9 @@ pub fn conform(heap: Global, settings: Arguments, trace: &[u8]) -> Result<Report
 {
     let Arguments { rate, burst, form } = settings;
     match form {
-        Form::Token => charge_trace::<tokens::token_bucket::TokenBucket>(heap, rate, burst, trace),
-        Form::Schedule => charge_trace::<tokens::virtual_scheduling::VirtualScheduling>(
-            heap, rate, burst, trace,
-        ),
-        Form::Leaky => charge_trace::<tokens::leaky_bucket::LeakyBucket>(heap, rate, burst, trace),
+        Form::Token => charge_trace::<TokenBucket>(heap, rate, burst, trace),
+        Form::Schedule => charge_trace::<VirtualScheduling>(heap, rate, burst, trace),
+        Form::Leaky => charge_trace::<LeakyBucket>(heap, rate, burst, trace),
     }
 }
 

@@ -9,6 +9,8 @@ use std::alloc::Global;
 use std::process::Abort;
 use std::test::Fail;
 use tokens::bucket::Bucket;
+use tokens::counting::CountingBucket;
+use tokens::deficit::DeficitBucket;
 
 // A flow, or all of them, and the rate that bounds it.
 #[derive(Clone, Copy)]
@@ -128,10 +130,10 @@ fn tokens_stay_within_counts_and_rates(rt: HostRuntime) -> Result<(), Fail> {
     let mut of_flows = 0u64;
     let mut of_all = 0u64;
     for seed in 0..600 {
-        let (flows, all) = sequence::<tokens::counting::CountingBucket>(&rt, rt.alloc(), seed)?;
+        let (flows, all) = sequence::<CountingBucket>(&rt, rt.alloc(), seed)?;
         of_flows = of_flows.saturating_add(flows);
         of_all = of_all.saturating_add(all);
-        sequence::<tokens::deficit::DeficitBucket>(&rt, rt.alloc(), seed.saturating_add(2_000))?;
+        sequence::<DeficitBucket>(&rt, rt.alloc(), seed.saturating_add(2_000))?;
     }
     assert!(rt; of_flows > 50_000 && of_all > 2_000);
     Ok(())

@@ -3,6 +3,8 @@
 use crate::chance::Chance;
 use std::process::Abort;
 use tokens::bucket::Bucket;
+use tokens::counting::CountingBucket;
+use tokens::deficit::DeficitBucket;
 
 #[derive(Clone, Copy)]
 struct Net {
@@ -86,7 +88,7 @@ fn sequence<B: Bucket>(rt: &impl Abort, seed: u64) {
 #[test]
 fn two_kinds_agree_with_the_net(rt: HostRuntime) {
     for seed in 0..300 {
-        sequence::<tokens::counting::CountingBucket>(&rt, seed);
-        sequence::<tokens::deficit::DeficitBucket>(&rt, seed);
+        sequence::<CountingBucket>(&rt, seed);
+        sequence::<DeficitBucket>(&rt, seed);
     }
 }

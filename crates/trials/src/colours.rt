@@ -11,6 +11,8 @@ use std::alloc::{AllocError, Global};
 use std::process::Abort;
 use std::test::Fail;
 use tokens::bucket::Bucket;
+use tokens::counting::CountingBucket;
+use tokens::deficit::DeficitBucket;
 
 // How often each kind of answer came.
 #[derive(Clone, Copy)]
@@ -155,10 +157,10 @@ fn agree<B: Bucket>(rt: &impl Abort, heap: Global) -> Result<(), Fail> {
 
 #[test]
 fn counting_buckets_agree_with_pouring(rt: HostRuntime) -> Result<(), Fail> {
-    agree::<tokens::counting::CountingBucket>(&rt, rt.alloc())
+    agree::<CountingBucket>(&rt, rt.alloc())
 }
 
 #[test]
 fn deficit_buckets_agree_with_pouring(rt: HostRuntime) -> Result<(), Fail> {
-    agree::<tokens::deficit::DeficitBucket>(&rt, rt.alloc())
+    agree::<DeficitBucket>(&rt, rt.alloc())
 }

@@ -8,6 +8,8 @@ use std::alloc::Global;
 use std::process::Abort;
 use std::test::Fail;
 use tokens::bucket::Bucket;
+use tokens::counting::CountingBucket;
+use tokens::deficit::DeficitBucket;
 
 const NOTHING: Supply = Supply {
     rate: 0,
@@ -87,8 +89,8 @@ fn in_both_kinds(
     cf0: bool,
     list: &[(Call, Result<Told, u8>)],
 ) -> Result<(), Fail> {
-    figure::<tokens::counting::CountingBucket>(rt, heap, flows, cf0, list)?;
-    figure::<tokens::deficit::DeficitBucket>(rt, heap, flows, cf0, list)
+    figure::<CountingBucket>(rt, heap, flows, cf0, list)?;
+    figure::<DeficitBucket>(rt, heap, flows, cf0, list)
 }
 
 #[test]

@@ -11,7 +11,11 @@ use std::alloc::{AllocError, Global};
 use std::process::Abort;
 use std::test::Fail;
 use tokens::bucket::Bucket;
+use tokens::counting::CountingBucket;
+use tokens::deficit::DeficitBucket;
+use tokens::leaky_bucket::LeakyBucket;
 use tokens::meter::Meter;
+use tokens::token_bucket::TokenBucket;
 
 fn meter_of<M: Meter>(meters: &[Option<M>], rank: u8) -> Option<M> {
     let index = usize::from(rank).saturating_sub(1);
@@ -134,16 +138,8 @@ fn sequence<B: Bucket, M: Meter>(rt: &impl Abort, heap: Global, seed: u64) -> Re
 fn what_a_lone_meter_passes_is_green(rt: HostRuntime) -> Result<(), Fail> {
     let mut passed = 0u64;
     for seed in 0..1_000 {
-        let one = sequence::<tokens::counting::CountingBucket, tokens::token_bucket::TokenBucket>(
-            &rt,
-            rt.alloc(),
-            seed,
-        )?;
-        let other = sequence::<tokens::deficit::DeficitBucket, tokens::leaky_bucket::LeakyBucket>(
-            &rt,
-            rt.alloc(),
-            seed,
-        )?;
+        let one = sequence::<CountingBucket, TokenBucket>(&rt, rt.alloc(), seed)?;
+        let other = sequence::<DeficitBucket, LeakyBucket>(&rt, rt.alloc(), seed)?;
         assert_eq!(rt; one, other);
         passed = passed.saturating_add(one);
     }

@@ -5,8 +5,11 @@ use std::alloc::Global;
 use std::process::Abort;
 use std::test::Fail;
 use tokens::calls::{Answer, Call, alike, put, worked_figure};
+use tokens::leaky_bucket::LeakyBucket;
 use tokens::meter::Meter;
 use tokens::refusal::Refusal;
+use tokens::token_bucket::TokenBucket;
+use tokens::virtual_scheduling::VirtualScheduling;
 
 const DAY_END: u64 = 86_400_000_000;
 
@@ -113,9 +116,9 @@ fn sequence(rt: &impl Abort, heap: Global, seed: u64, kinds: &mut Kinds) -> Resu
         chance.pick(&BURSTS)
     };
     let mut windows = Windows::new(heap, rate, burst).ok_or("out of range")?;
-    let mut token = <tokens::token_bucket::TokenBucket as Meter>::new(rate, burst)?;
-    let mut schedule = <tokens::virtual_scheduling::VirtualScheduling as Meter>::new(rate, burst)?;
-    let mut leaky = <tokens::leaky_bucket::LeakyBucket as Meter>::new(rate, burst)?;
+    let mut token = TokenBucket::new(rate, burst)?;
+    let mut schedule = VirtualScheduling::new(rate, burst)?;
+    let mut leaky = LeakyBucket::new(rate, burst)?;
     for _ in 0..150 {
         let call = any_call(&mut chance, &windows, rate, burst);
         let expected = windows.put(call)?;
@@ -160,19 +163,10 @@ fn rates_and_bursts_at_the_edges(rt: HostRuntime) {
     for rate in edges {
         for burst in edges {
             let lawful = Windows::new(rt.alloc(), rate, burst).is_some();
-            assert_eq!(rt;
-                <tokens::token_bucket::TokenBucket as Meter>::new(rate, burst).is_ok(),
-                lawful
-            );
-            assert_eq!(rt;
-                <tokens::virtual_scheduling::VirtualScheduling as Meter>::new(rate, burst).is_ok(),
-                lawful
-            );
-            assert_eq!(rt;
-                <tokens::leaky_bucket::LeakyBucket as Meter>::new(rate, burst).is_ok(),
-                lawful
-            );
-            if let Err(refusal) = <tokens::leaky_bucket::LeakyBucket as Meter>::new(rate, burst) {
+            assert_eq!(rt; TokenBucket::new(rate, burst).is_ok(), lawful);
+            assert_eq!(rt; VirtualScheduling::new(rate, burst).is_ok(), lawful);
+            assert_eq!(rt; LeakyBucket::new(rate, burst).is_ok(), lawful);
+            if let Err(refusal) = LeakyBucket::new(rate, burst) {
                 assert_eq!(rt; refusal.number(), 16);
             }
         }
@@ -182,9 +176,9 @@ fn rates_and_bursts_at_the_edges(rt: HostRuntime) {
 #[test]
 fn worked_figure_in_three_forms(rt: HostRuntime) -> Result<(), Fail> {
     let expected = [Answer::Yes, Answer::No, Answer::Yes, Answer::No];
-    let mut token = <tokens::token_bucket::TokenBucket as Meter>::new(1_000, 1_500)?;
-    let mut schedule = <tokens::virtual_scheduling::VirtualScheduling as Meter>::new(1_000, 1_500)?;
-    let mut leaky = <tokens::leaky_bucket::LeakyBucket as Meter>::new(1_000, 1_500)?;
+    let mut token = TokenBucket::new(1_000, 1_500)?;
+    let mut schedule = VirtualScheduling::new(1_000, 1_500)?;
+    let mut leaky = LeakyBucket::new(1_000, 1_500)?;
     for (call, answer) in worked_figure().iter().zip(expected.iter()) {
         assert_eq!(rt; told(&mut token, *call), Ok(*answer));
         assert_eq!(rt; told(&mut schedule, *call), Ok(*answer));
@@ -196,13 +190,13 @@ fn worked_figure_in_three_forms(rt: HostRuntime) -> Result<(), Fail> {
 #[test]
 fn meters_of_one_burst_are_alike_and_of_two_are_not(rt: HostRuntime) -> Result<(), Fail> {
     let calls = worked_figure();
-    let token = <tokens::token_bucket::TokenBucket as Meter>::new(1_000, 1_500)?;
-    let schedule = <tokens::virtual_scheduling::VirtualScheduling as Meter>::new(1_000, 1_500)?;
-    let leaky = <tokens::leaky_bucket::LeakyBucket as Meter>::new(1_000, 1_500)?;
+    let token = TokenBucket::new(1_000, 1_500)?;
+    let schedule = VirtualScheduling::new(1_000, 1_500)?;
+    let leaky = LeakyBucket::new(1_000, 1_500)?;
     assert!(rt; alike(token, schedule, &calls));
     assert!(rt; alike(schedule, leaky, &calls));
     assert!(rt; alike(leaky, token, &calls));
-    let smaller = <tokens::leaky_bucket::LeakyBucket as Meter>::new(1_000, 1_499)?;
+    let smaller = LeakyBucket::new(1_000, 1_499)?;
     assert_eq!(rt; alike(token, smaller, &calls), false);
     assert!(rt; alike(token, smaller, &[]));
     Ok(())
