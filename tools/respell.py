@@ -1,7 +1,8 @@
 #!/usr/bin/env python3
 """Respells this repository's own definitions, lemmas and ghost names as today's Rattle spells names: words in snake
-case, types and facts in upper camel case. Run once, at the top, after the kit's port.py. Names from src/, names that
-Rattle makes (goals, steps), names of the library, strings, inputs and outputs keep their spelling.
+case, types and facts in upper camel case. Run once, at the top, after the kit's port.py. Names from src/, goals and
+steps that Rattle makes, names of the library, strings, inputs and outputs keep their spelling. In README.md and docs/
+it turns names between backticks, as far as specs/ or proofs/ still had them in the older spelling.
 
 usage: python3 tools/respell.py [--list]     --list prints what would be renamed and changes nothing
 """
@@ -14,11 +15,13 @@ DASHED = re.compile(r"[A-Za-z0-9₀-₉'_]-[A-Za-z0-9]")
 CAMEL = re.compile(r"^[a-z][a-z0-9_]*[A-Z]")
 GENERATED = ("Answers.antt", "Invariants.antt", "Proof.antt")
 USE = re.compile(r"use (\S+?)\.\{(.*?)\}", re.S)
-# variables that were named after a type parameter; nothing else begins with a capital that is not a type or a fact
-VARIABLES = {"M-meaning": "m_meaning", "N-meaning": "n_meaning", "B-kind": "b_kind", "C-kind": "c_kind"}
+# variables that begin with a capital and are no types or facts: four named after a type parameter, and one that the
+# kit's script took for a fact
+VARIABLES = {"M-meaning": "m_meaning", "N-meaning": "n_meaning", "B-kind": "b_kind", "C-kind": "c_kind", "All-there": "all_there"}
 # names that would fall together with a function of src/ in a file that imports them
 APART = {"profile-A": "the_profile_a", "yellowOrRed": "yellow_or_red_lem"}
-# a definition of ours whose function has its name, so that Rattle called the step of that call the same
+# a definition of ours whose function has its name: Rattle called the step of a call of it the same, and the step of
+# today has the function's spelling, which is the definition's new one
 SHARED = {"yellow-or-red"}
 
 
@@ -43,7 +46,7 @@ PAGES = ["README.md"] + sorted(glob.glob("docs/*.md"))
 
 
 def kinds():
-    """Names that are ours, by file, and names that are not: imported from a library, or made by Rattle."""
+    """Names that are not ours, imported from a library or from src/; names that Rattle makes; and each file's code."""
     foreign, made, fields, found = set(), set(), set(), {}
     for path in ANTT:
         text = code(read(path))
@@ -99,13 +102,15 @@ def names():
         for a, b in ghost(text):
             mine |= {t for t in TOKEN.findall(text[a:b]) if DASHED.search(t) or CAMEL.search(t)}
     mine -= foreign
-    both = {n for n in mine & made if n not in VARIABLES}
+    both = {n for n in mine & made if n not in VARIABLES and n not in SHARED}
     mine -= made - SHARED
     return {n: renamed(n) for n in mine}, both
 
 
 def turn(text, table):
-    return TOKEN.sub(lambda m: table.get(m.group(0), m.group(0)), text)
+    """The text with its names respelled; what stands between double quotes stays."""
+    parts = re.split(r'("[^"\n]*")', text)
+    return "".join(p if p.startswith('"') else TOKEN.sub(lambda m: table.get(m.group(0), m.group(0)), p) for p in parts)
 
 
 def main():
