@@ -1,10 +1,13 @@
-// The four calls upon an envelope and its buckets, the same for every kind of bucket.
+// The four calls upon an envelope and its buckets, the same for every kind of bucket. Each checks first, and changes
+// nothing where it refuses.
 ghost use Rattle.std.specs.Prelude.{◌≡◌, true, is_err};
 ghost use Rattle.envelopes.specs.Envelopes.{Promised};
 ghost use Rattle.envelopes.specs.Promises.{advance as advancing, fill as filling, judge as judging, read as reading};
 ghost use Rattle.envelopes.specs.Refusals.{told};
 
+use crate::buckets::{counts_of, make_all};
 use crate::colour::{Colour, Request};
+use crate::colouring::declare;
 use crate::envelope::Envelope;
 use crate::refusal::Refusal;
 use tokens::bucket::Bucket;
@@ -16,7 +19,11 @@ impl Envelope {
         ensures same { self.new ≡ self.old }
         ensures refused { is_err result ≡ true → buckets.new ≡ buckets.old }
     {
-        self.fill_all(buckets)
+        if buckets.len() != 2 * self.flows() {
+            return Err(Refusal::Buckets);
+        }
+        make_all(self.draft.rows(), buckets);
+        Ok(())
     }
 
     /// Lets the buckets grow up to a moment.
@@ -25,7 +32,9 @@ impl Envelope {
         ensures draft { self.new.draft ≡ self.old.draft }
         ensures refused { is_err result ≡ true → (self.new ≡ self.old) × (buckets.new ≡ buckets.old) }
     {
-        self.advance_to(buckets, moment)
+        self.check_advance(buckets, moment)?;
+        self.move_to(buckets, moment);
+        Ok(())
     }
 
     /// Lets the buckets grow up to the request's moment, colours it, and spends what the colour costs.
@@ -38,13 +47,17 @@ impl Envelope {
         ensures draft { self.new.draft ≡ self.old.draft }
         ensures refused { is_err result ≡ true → (self.new ≡ self.old) × (buckets.new ≡ buckets.old) }
     {
-        self.judge_request(buckets, request)
+        self.check_request(buckets, request)?;
+        let flows = self.flows();
+        self.move_to(buckets, request.moment);
+        Ok(declare(flows, buckets, request))
     }
 
     /// A rank's green and yellow count, in grains.
     pub fn read<B: Bucket>(&self, buckets: &[B], rank: u8) -> Result<(u64, u64), Refusal>
         ensures { Promised B.Bucket.volume B.Bucket.count self.now buckets.now (reading rank (told result)) self.now buckets.now }
     {
-        self.read_rank(buckets, rank)
+        self.check_read(buckets, rank)?;
+        Ok(counts_of(self.flows(), buckets, rank))
     }
 }

@@ -2,7 +2,7 @@ use Rattle.tokens.specs.Meters.{moment_causes}
 use Rattle.envelopes.specs.Drafts.{profile}
 use Rattle.envelopes.specs.Histories.{sees}
 use Rattle.envelopes.proofs.Kept.{buckets_passed, moment_passed}
-use Rattle.envelopes.proofs.envelope.Envelope.advance_to.Goals as goal
+use Rattle.envelopes.proofs.envelope.Envelope.advance.Goals as goal
 
 pub move_to-requires : goal.move_to-requires
 move_to-requires g c =

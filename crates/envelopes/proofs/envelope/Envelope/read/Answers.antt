@@ -5,7 +5,7 @@ use Rattle.envelopes.specs.Histories.{sees}
 use Rattle.envelopes.specs.Promises.{parted, rank_counts, read_causes}
 use Rattle.envelopes.proofs.Kept.{keeps_by_answer, read_passed}
 use Rattle.envelopes.proofs.Matched.{fitting_are_even}
-use Rattle.envelopes.proofs.envelope.Envelope.read_rank.Goals as goal
+use Rattle.envelopes.proofs.envelope.Envelope.read.Goals as goal
 
 pub counts_of-requires : goal.counts_of-requires
 counts_of-requires g c =

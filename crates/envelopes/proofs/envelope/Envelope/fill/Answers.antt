@@ -7,7 +7,7 @@ use Rattle.envelopes.proofs.Causes.{false_is_not_true}
 use Rattle.envelopes.proofs.Drafted.{as_many_rows, few_rows, their_flows}
 use Rattle.envelopes.proofs.Judged.{seen_by_parts}
 use Rattle.envelopes.proofs.Kept.{keeps_by_answer, keeps_by_refusal, right_number, wrong_number_refused}
-use Rattle.envelopes.proofs.envelope.Envelope.fill_all.Goals as goal
+use Rattle.envelopes.proofs.envelope.Envelope.fill.Goals as goal
 
 pub returns-then-buckets-flows : goal.returns-then-buckets-flows
 returns-then-buckets-flows g c =

@@ -8,7 +8,7 @@ use Rattle.envelopes.proofs.Causes.{false_is_not_true}
 use Rattle.envelopes.proofs.Judged.{colour_told, counts_left, seen_by_parts}
 use Rattle.envelopes.proofs.Kept.{keeps_by_answer, keeps_by_refusal, passed_on, request_passed}
 use Rattle.envelopes.proofs.Matched.{fitting_are_even}
-use Rattle.envelopes.proofs.envelope.Envelope.judge_request.Goals as goal
+use Rattle.envelopes.proofs.envelope.Envelope.judge.Goals as goal
 
 pub returns-in_err-check_request : goal.returns-in_err-check_request
 returns-in_err-check_request g c =
