@@ -28,18 +28,14 @@ impl Draft {
         ensures latest { result.latest ≡ 0 }
         ensures shares { ShareGuarantee by_meaning by_meaning (λ meter. meter) (profile self) }
     {
-        Envelope::at_start(self)
+        Envelope {
+            draft: self,
+            latest: 0,
+        }
     }
 }
 
 impl Envelope {
-    fn at_start(draft: Draft) -> Self
-        ensures draft { result.draft ≡ draft }
-        ensures latest { result.latest ≡ 0 }
-    {
-        Envelope { draft, latest: 0 }
-    }
-
     /// Gives the draft back.
     pub fn close(self) -> Draft
         ensures { result ≡ self.draft }

@@ -15,8 +15,11 @@ fn supply(rate: u64, volume: u64) -> Supply
     }
 }
 
-fn flows_of_a() -> [Flow; 2]
-    ensures { result ≡ the_profile_a.flows }
+/// The two flows of profile A, rank 1 first. Its CF0 is 0.
+pub fn profile_a() -> [Flow; 2]
+    ensures flows { result ≡ the_profile_a.flows }
+    ensures figures { Figures }
+    ensures history { WorkedHistory }
 {
     let lower = Flow {
         green: supply(0, 1_000),
@@ -29,13 +32,4 @@ fn flows_of_a() -> [Flow; 2]
         cf: false,
     };
     [lower, upper]
-}
-
-/// The two flows of profile A, rank 1 first. Its CF0 is 0.
-pub fn profile_a() -> [Flow; 2]
-    ensures flows { result ≡ the_profile_a.flows }
-    ensures figures { Figures }
-    ensures history { WorkedHistory }
-{
-    flows_of_a()
 }
