@@ -10,6 +10,7 @@ pub mod leaky_bucket;
 mod limits;
 pub mod meter;
 pub mod refusal;
+pub mod time;
 pub mod token_bucket;
 pub mod units;
 pub mod virtual_scheduling;

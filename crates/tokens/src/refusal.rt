@@ -1,13 +1,16 @@
 // Why a call is refused.
 ghost use Rattle.std.specs.Prelude.{◌≡◌};
-ghost use Rattle.tokens.specs.Refusals.{number as number_of};
+ghost use Rattle.tokens.specs.Refusals.{number as number_of, of_moment};
 
+use crate::time::MomentRefusal;
+
+/// Each is the number under which customers know it.
 #[derive(Clone, Copy, PartialEq, Eq, Debug)]
 pub enum Refusal {
-    NoTokens,
-    BeforeLatest,
-    AfterDayEnd,
-    RateOrBurst,
+    NoTokens = 8,
+    BeforeLatest = 10,
+    AfterDayEnd = 11,
+    RateOrBurst = 16,
 }
 
 impl Refusal {
@@ -15,11 +18,17 @@ impl Refusal {
     pub fn number(self) -> u8
         ensures { result ≡ number_of self }
     {
-        match self {
-            Refusal::NoTokens => 8,
-            Refusal::BeforeLatest => 10,
-            Refusal::AfterDayEnd => 11,
-            Refusal::RateOrBurst => 16,
+        self as u8
+    }
+}
+
+impl From<MomentRefusal> for Refusal {
+    ghost from_gives = { λ cause refusal. refusal ≡ of_moment cause };
+
+    fn from(cause: MomentRefusal) -> Self {
+        match cause {
+            MomentRefusal::TooEarly => Refusal::BeforeLatest,
+            MomentRefusal::TooLate => Refusal::AfterDayEnd,
         }
     }
 }
