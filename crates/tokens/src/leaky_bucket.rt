@@ -3,35 +3,33 @@ ghost use Rattle.std.specs.Prelude.{◌≡◌, ◌-◌, ◌*◌, ◌≤◌};
 ghost use Rattle.tokens.specs.Units.{grains as in_grains, day_end};
 ghost use Rattle.std.proofs.Common.{rules};
 
-use crate::checks::{check_moment, check_packet};
+use crate::checks::packet_moment;
 use crate::limits::Limits;
 use crate::meter::Meter;
 use crate::refusal::Refusal;
+use crate::time::Time;
 use crate::units::grains;
 
 #[derive(Clone, Copy)]
 pub struct LeakyBucket {
     limits: Limits,
-    latest: u64,
+    latest: Time,
     backlog: u64,
-    ghost latest_bound: { latest ≤ day_end },
     ghost backlog_bound: { backlog ≤ in_grains limits.burst },
 }
 
 impl LeakyBucket {
     // What has not yet drained at a moment that is not before the latest one.
-    fn backlog_at(&self, moment: u64) -> u64
-        requires later { self.now.latest ≤ moment }
-        requires day { moment ≤ day_end }
-        ensures { result ≡ self.now.backlog - self.now.limits.rate * (moment - self.now.latest) }
+    fn backlog_at(&self, moment: Time) -> u64
+        ensures { result ≡ self.now.backlog - self.now.limits.rate * (moment.micros - self.now.latest.micros) }
     {
-        let drained = self.limits.gained(moment - self.latest);
+        let drained = self.limits.gained(moment.since(self.latest));
         self.backlog.saturating_sub(drained)
     }
 }
 
 impl Meter for LeakyBucket {
-    ghost meaning = { λ m. record { rate = m.limits.rate; burst = m.limits.burst; latest = m.latest; level = in_grains m.limits.burst - m.backlog } };
+    ghost meaning = { λ m. record { rate = m.limits.rate; burst = m.limits.burst; latest = m.latest.micros; level = in_grains m.limits.burst - m.backlog } };
 
     ghost sound = { Prim.search rules };
 
@@ -39,18 +37,18 @@ impl Meter for LeakyBucket {
         let limits = Limits::new(rate, burst)?;
         Ok(LeakyBucket {
             limits,
-            latest: 0,
+            latest: Time::start(),
             backlog: 0,
         })
     }
 
     fn question(&self, tokens: u32, moment: u64) -> Result<bool, Refusal> {
-        check_packet(self.latest, tokens, moment)?;
+        let moment = packet_moment(self.latest, tokens, moment)?;
         Ok(self.backlog_at(moment) + grains(tokens) <= self.limits.full())
     }
 
     fn charge(&mut self, tokens: u32, moment: u64) -> Result<bool, Refusal> {
-        check_packet(self.latest, tokens, moment)?;
+        let moment = packet_moment(self.latest, tokens, moment)?;
         let backlog = self.backlog_at(moment);
         let filled = backlog + grains(tokens);
         let passes = filled <= self.limits.full();
@@ -60,7 +58,7 @@ impl Meter for LeakyBucket {
     }
 
     fn wait(&mut self, moment: u64) -> Result<(), Refusal> {
-        check_moment(self.latest, moment)?;
+        let moment = self.latest.next(moment)?;
         self.backlog = self.backlog_at(moment);
         self.latest = moment;
         Ok(())

@@ -5,6 +5,7 @@ ghost use Rattle.tokens.specs.Refusals.{told_by};
 ghost use Rattle.tokens.specs.Units.{grains as in_grains, day_end, highest_rate, largest_burst};
 
 use crate::refusal::Refusal;
+use crate::time::Time;
 use crate::units::{GRAINS_PER_TOKEN, HIGHEST_RATE, LARGEST_BURST};
 
 #[derive(Clone, Copy)]
@@ -22,10 +23,7 @@ impl Limits {
     pub(crate) fn new(rate: u64, burst: u64) -> Result<Self, Refusal>
         ensures { told_by (λ l. fresh l.rate l.burst) result ≡ new_told rate burst }
     {
-        if rate < 1 || rate > HIGHEST_RATE {
-            return Err(Refusal::RateOrBurst);
-        }
-        if burst < 1 || burst > LARGEST_BURST {
+        if !(1..=HIGHEST_RATE).contains(&rate) || !(1..=LARGEST_BURST).contains(&burst) {
             return Err(Refusal::RateOrBurst);
         }
         Ok(Limits { rate, burst })
@@ -40,11 +38,10 @@ impl Limits {
     }
 
     // What the rate brings in a time, in grains.
-    pub(crate) fn gained(&self, time: u64) -> u64
-        requires { time ≤ day_end }
-        ensures value { result ≡ self.now.rate * time }
+    pub(crate) fn gained(&self, time: Time) -> u64
+        ensures value { result ≡ self.now.rate * time.micros }
         ensures bound { result ≤ highest_rate * day_end }
     {
-        self.rate * time
+        self.rate * time.micros()
     }
 }

@@ -4,35 +4,33 @@ ghost use Rattle.tokens.specs.Meters.{grown};
 ghost use Rattle.tokens.specs.Units.{grains as in_grains, day_end};
 ghost use Rattle.std.proofs.Common.{rules};
 
-use crate::checks::{check_moment, check_packet};
+use crate::checks::packet_moment;
 use crate::limits::Limits;
 use crate::meter::Meter;
 use crate::refusal::Refusal;
+use crate::time::Time;
 use crate::units::grains;
 
 #[derive(Clone, Copy)]
 pub struct TokenBucket {
     limits: Limits,
-    latest: u64,
+    latest: Time,
     level: u64,
-    ghost latest_bound: { latest ≤ day_end },
     ghost level_bound: { level ≤ in_grains limits.burst },
 }
 
 impl TokenBucket {
     // The level at a moment that is not before the latest one.
-    fn level_at(&self, moment: u64) -> u64
-        requires later { self.now.latest ≤ moment }
-        requires day { moment ≤ day_end }
-        ensures { result ≡ grown self.now.limits.rate self.now.limits.burst self.now.level (moment - self.now.latest) }
+    fn level_at(&self, moment: Time) -> u64
+        ensures { result ≡ grown self.now.limits.rate self.now.limits.burst self.now.level (moment.micros - self.now.latest.micros) }
     {
-        let uncapped = self.level + self.limits.gained(moment - self.latest);
+        let uncapped = self.level + self.limits.gained(moment.since(self.latest));
         uncapped.min(self.limits.full())
     }
 }
 
 impl Meter for TokenBucket {
-    ghost meaning = { λ m. record { rate = m.limits.rate; burst = m.limits.burst; latest = m.latest; level = m.level } };
+    ghost meaning = { λ m. record { rate = m.limits.rate; burst = m.limits.burst; latest = m.latest.micros; level = m.level } };
 
     ghost sound = { Prim.search rules };
 
@@ -41,18 +39,18 @@ impl Meter for TokenBucket {
         let level = limits.full();
         Ok(TokenBucket {
             limits,
-            latest: 0,
+            latest: Time::start(),
             level,
         })
     }
 
     fn question(&self, tokens: u32, moment: u64) -> Result<bool, Refusal> {
-        check_packet(self.latest, tokens, moment)?;
+        let moment = packet_moment(self.latest, tokens, moment)?;
         Ok(grains(tokens) <= self.level_at(moment))
     }
 
     fn charge(&mut self, tokens: u32, moment: u64) -> Result<bool, Refusal> {
-        check_packet(self.latest, tokens, moment)?;
+        let moment = packet_moment(self.latest, tokens, moment)?;
         let amount = grains(tokens);
         let level = self.level_at(moment);
         let passes = amount <= level;
@@ -62,7 +60,7 @@ impl Meter for TokenBucket {
     }
 
     fn wait(&mut self, moment: u64) -> Result<(), Refusal> {
-        check_moment(self.latest, moment)?;
+        let moment = self.latest.next(moment)?;
         self.level = self.level_at(moment);
         self.latest = moment;
         Ok(())

@@ -4,28 +4,27 @@ ghost use Rattle.std.specs.Prelude.{◌≡◌, ◌+◌, ◌-◌, ◌*◌, ◌≤
 ghost use Rattle.tokens.specs.Units.{grains as in_grains, day_end, highest_rate};
 ghost use Rattle.std.proofs.Common.{rules};
 
-use crate::checks::{check_moment, check_packet};
+use crate::checks::packet_moment;
 use crate::limits::Limits;
 use crate::meter::Meter;
 use crate::refusal::Refusal;
+use crate::time::Time;
 use crate::units::grains;
 
 #[derive(Clone, Copy)]
 pub struct VirtualScheduling {
     limits: Limits,
-    latest: u64,
+    latest: Time,
     due: u64,
-    ghost latest_bound: { latest ≤ day_end },
-    ghost due_bound: { due ≤ in_grains limits.burst + limits.rate * latest },
+    ghost due_bound: { due ≤ in_grains limits.burst + limits.rate * latest.micros },
 }
 
 impl VirtualScheduling {
     // A moment that is not before the latest one, times the rate; and how that compares with the latest one.
-    fn arrival(&self, moment: u64) -> u64
-        requires later { self.now.latest ≤ moment }
-        requires day { moment ≤ day_end }
-        ensures value { result ≡ self.now.limits.rate * moment }
-        ensures parts { result ≡ self.now.limits.rate * self.now.latest + self.now.limits.rate * (moment - self.now.latest) }
+    fn arrival(&self, moment: Time) -> u64
+        requires { self.now.latest.micros ≤ moment.micros }
+        ensures value { result ≡ self.now.limits.rate * moment.micros }
+        ensures parts { result ≡ self.now.limits.rate * self.now.latest.micros + self.now.limits.rate * (moment.micros - self.now.latest.micros) }
         ensures bound { result ≤ highest_rate * day_end }
     {
         self.limits.gained(moment)
@@ -33,7 +32,7 @@ impl VirtualScheduling {
 }
 
 impl Meter for VirtualScheduling {
-    ghost meaning = { λ m. record { rate = m.limits.rate; burst = m.limits.burst; latest = m.latest; level = in_grains m.limits.burst - (m.due - m.limits.rate * m.latest) } };
+    ghost meaning = { λ m. record { rate = m.limits.rate; burst = m.limits.burst; latest = m.latest.micros; level = in_grains m.limits.burst - (m.due - m.limits.rate * m.latest.micros) } };
 
     ghost sound = { Prim.search rules };
 
@@ -41,19 +40,19 @@ impl Meter for VirtualScheduling {
         let limits = Limits::new(rate, burst)?;
         Ok(VirtualScheduling {
             limits,
-            latest: 0,
+            latest: Time::start(),
             due: 0,
         })
     }
 
     fn question(&self, tokens: u32, moment: u64) -> Result<bool, Refusal> {
-        check_packet(self.latest, tokens, moment)?;
+        let moment = packet_moment(self.latest, tokens, moment)?;
         let arrival = self.arrival(moment);
         Ok(self.due.max(arrival) + grains(tokens) <= arrival + self.limits.full())
     }
 
     fn charge(&mut self, tokens: u32, moment: u64) -> Result<bool, Refusal> {
-        check_packet(self.latest, tokens, moment)?;
+        let moment = packet_moment(self.latest, tokens, moment)?;
         let arrival = self.arrival(moment);
         let next = self.due.max(arrival) + grains(tokens);
         let passes = next <= arrival + self.limits.full();
@@ -65,7 +64,7 @@ impl Meter for VirtualScheduling {
     }
 
     fn wait(&mut self, moment: u64) -> Result<(), Refusal> {
-        check_moment(self.latest, moment)?;
+        let moment = self.latest.next(moment)?;
         // A due time that has passed is worth the present.
         self.due = self.due.max(self.arrival(moment));
         self.latest = moment;

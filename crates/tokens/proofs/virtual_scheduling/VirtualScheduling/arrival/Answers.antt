@@ -6,6 +6,6 @@ pub returns : goal.returns
 returns c =
     record {
       value = c.gained.ensures.value;
-      parts = c.gained.ensures.value ∙ gained_since_start c.args.self.now.limits.rate _ _ c.requires.later;
+      parts = c.gained.ensures.value ∙ gained_since_start c.args.self.now.limits.rate _ _ c.requires;
       bound = c.gained.ensures.bound;
     }
