@@ -1,3 +1,4 @@
 pub mod Bounds
 pub mod Forms
 pub mod Products
+pub mod Comparing

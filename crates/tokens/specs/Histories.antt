@@ -1,5 +1,5 @@
 -- Lists of calls upon a meter, and what holds of them whatever the form of the meter. Assumes nothing.
-use Rattle.std.specs.Prelude.{◌≡◌, ℕ, ◌+◌, ◌-◌, ◌*◌, ◌<◌, ◌≤◌, cond, List, [], ◌∷◌, map, ◌≢◌}
+use Rattle.std.specs.Prelude.{◌≡◌, ℕ, ◌+◌, ◌-◌, ◌*◌, ◌<◌, ◌≤◌, Bool, cond, List, [], ◌∷◌, map, ◌≢◌}
 use Rattle.std.specs.List.{AllByRecursion}
 use Rattle.tokens.specs.Meters.{Metered, fresh, packet_told, wait_told, charged, waited}
 use Rattle.tokens.specs.Refusals.{Told, answered, refused}
@@ -14,10 +14,14 @@ abbrev pub read_by : {A B : Type 0} → (A → B) → Told A → Told B
 read_by f (answered a) = answered (f a)
 read_by f (refused number) = refused number
 
+-- whether a packet passes, as an answer
+abbrev pub yes_or_no : Bool → Answer
+yes_or_no passes = cond passes Yes No
+
 -- what each call tells, and what it leaves
 abbrev pub answer : Metered → Call → Told Answer
-answer m (Question tokens moment) = read_by (λ passes. cond passes Yes No) (packet_told m tokens moment)
-answer m (Charge tokens moment) = read_by (λ passes. cond passes Yes No) (packet_told m tokens moment)
+answer m (Question tokens moment) = read_by yes_or_no (packet_told m tokens moment)
+answer m (Charge tokens moment) = read_by yes_or_no (packet_told m tokens moment)
 answer m (Wait moment) = read_by (λ _. Moved) (wait_told m moment)
 
 abbrev pub after : Metered → Call → Metered

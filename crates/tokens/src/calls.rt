@@ -1,6 +1,6 @@
 // Lists of calls upon meters, and the law above the single calls: the form of a meter does not matter.
 ghost use Rattle.std.specs.Prelude.{◌≡◌, true, is_err, Decides};
-ghost use Rattle.tokens.specs.Histories.{Kept, KeepsToLimits, AnswerAlike, answers, MeterFigure, figure_calls};
+ghost use Rattle.tokens.specs.Histories.{Kept, KeepsToLimits, AnswerAlike, answers, MeterFigure, figure_calls, yes_or_no};
 ghost use Rattle.tokens.specs.Refusals.{told};
 
 use crate::meter::Meter;
@@ -20,30 +20,27 @@ pub enum Answer {
     Moved,
 }
 
+/// What a question or a charge answers.
+impl From<bool> for Answer {
+    ghost from_gives = { λ passes answer. answer ≡ yes_or_no passes };
+
+    fn from(passes: bool) -> Self {
+        if passes { Answer::Yes } else { Answer::No }
+    }
+}
+
 /// Puts one call to a meter.
 pub fn put<M: Meter>(meter: &mut M, call: Call) -> Result<Answer, Refusal>
     ensures kept { Kept (M.Meter.meaning meter.old) call (told result) (M.Meter.meaning meter.new) }
     ensures refused { is_err result ≡ true → meter.new ≡ meter.old }
 {
-    let passes = match call {
-        Call::Question { tokens, moment } => meter.question(tokens, moment)?,
-        Call::Charge { tokens, moment } => meter.charge(tokens, moment)?,
+    match call {
+        Call::Question { tokens, moment } => Ok(meter.question(tokens, moment)?.into()),
+        Call::Charge { tokens, moment } => Ok(meter.charge(tokens, moment)?.into()),
         Call::Wait { moment } => {
             meter.wait(moment)?;
-            return Ok(Answer::Moved);
+            Ok(Answer::Moved)
         }
-    };
-    Ok(if passes { Answer::Yes } else { Answer::No })
-}
-
-// Whether two calls told the same.
-fn same(a: Result<Answer, Refusal>, b: Result<Answer, Refusal>) -> bool
-    ensures { Decides result (told a ≡ told b) }
-{
-    match (a, b) {
-        (Ok(x), Ok(y)) => x == y,
-        (Err(x), Err(y)) => x.number() == y.number(),
-        _ => false,
     }
 }
 
@@ -56,7 +53,7 @@ pub fn alike<M: Meter, N: Meter>(mut m: M, mut n: N, calls: &[Call]) -> bool
     ensures limits { KeepsToLimits M.Meter.meaning }
 {
     for call in calls {
-        if !same(put(&mut m, *call), put(&mut n, *call)) {
+        if put(&mut m, *call) != put(&mut n, *call) {
             return false;
         }
     }

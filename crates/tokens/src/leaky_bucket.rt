@@ -42,11 +42,6 @@ impl Meter for LeakyBucket {
         })
     }
 
-    fn question(&self, tokens: u32, moment: u64) -> Result<bool, Refusal> {
-        let moment = packet_moment(self.latest, tokens, moment)?;
-        Ok(self.backlog_at(moment) + grains(tokens) <= self.limits.full())
-    }
-
     fn charge(&mut self, tokens: u32, moment: u64) -> Result<bool, Refusal> {
         let moment = packet_moment(self.latest, tokens, moment)?;
         let backlog = self.backlog_at(moment);

@@ -12,15 +12,19 @@ pub trait Meter: Copy {
     fn new(rate: u64, burst: u64) -> Result<Self, Refusal>
         ensures { told_by meaning result ≡ new_told rate burst };
 
-    /// Whether a packet of so many tokens would pass at a moment.
-    fn question(&self, tokens: u32, moment: u64) -> Result<bool, Refusal>
-        ensures { told result ≡ packet_told (meaning self.now) tokens moment };
-
     /// Moves to the moment and, where the packet passes, takes its tokens. Answers whether it passes.
     fn charge(&mut self, tokens: u32, moment: u64) -> Result<bool, Refusal>
         ensures value { told result ≡ packet_told (meaning self.old) tokens moment }
         ensures after { meaning self.new ≡ charged (meaning self.old) tokens moment }
         ensures refused { is_err result ≡ true → self.new ≡ self.old };
+
+    /// Whether a packet of so many tokens would pass at a moment, which is what charging it to a copy answers.
+    fn question(&self, tokens: u32, moment: u64) -> Result<bool, Refusal>
+        ensures { told result ≡ packet_told (meaning self.now) tokens moment }
+    {
+        let mut copy = *self;
+        copy.charge(tokens, moment)
+    }
 
     /// Moves to the moment.
     fn wait(&mut self, moment: u64) -> Result<(), Refusal>

@@ -44,11 +44,6 @@ impl Meter for TokenBucket {
         })
     }
 
-    fn question(&self, tokens: u32, moment: u64) -> Result<bool, Refusal> {
-        let moment = packet_moment(self.latest, tokens, moment)?;
-        Ok(grains(tokens) <= self.level_at(moment))
-    }
-
     fn charge(&mut self, tokens: u32, moment: u64) -> Result<bool, Refusal> {
         let moment = packet_moment(self.latest, tokens, moment)?;
         let amount = grains(tokens);

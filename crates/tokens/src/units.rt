@@ -18,5 +18,5 @@ pub const LARGEST_BURST: u64 = 1_000_000_000;
 pub fn grains(tokens: u32) -> u64
     ensures { result ≡ in_grains tokens }
 {
-    GRAINS_PER_TOKEN * tokens as u64
+    GRAINS_PER_TOKEN * u64::from(tokens)
 }

@@ -45,12 +45,6 @@ impl Meter for VirtualScheduling {
         })
     }
 
-    fn question(&self, tokens: u32, moment: u64) -> Result<bool, Refusal> {
-        let moment = packet_moment(self.latest, tokens, moment)?;
-        let arrival = self.arrival(moment);
-        Ok(self.due.max(arrival) + grains(tokens) <= arrival + self.limits.full())
-    }
-
     fn charge(&mut self, tokens: u32, moment: u64) -> Result<bool, Refusal> {
         let moment = packet_moment(self.latest, tokens, moment)?;
         let arrival = self.arrival(moment);
