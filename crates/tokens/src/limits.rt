@@ -38,10 +38,11 @@ impl Limits {
     }
 
     // What the rate brings in a time, in grains.
+    #[tactic(auto, using(crate::proofs::Products::day_of_grains))]
     pub(crate) fn gained(&self, time: Time) -> u64
         ensures value { result ≡ self.now.rate * time.micros }
         ensures bound { result ≤ highest_rate * day_end }
     {
-        self.rate * time.micros()
+        self.rate * time.micros
     }
 }

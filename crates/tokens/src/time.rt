@@ -14,7 +14,7 @@ pub enum MomentRefusal {
 /// Microseconds within one service day: since it began, which is a moment, or between two moments.
 #[derive(Clone, Copy)]
 pub struct Time {
-    micros: u64,
+    pub micros: u64,
     ghost within_day: { micros ≤ day_end },
 }
 
@@ -27,12 +27,6 @@ impl Time {
         ensures { result.micros ≡ 0 }
     {
         Time { micros: 0 }
-    }
-
-    pub fn micros(self) -> u64
-        ensures { result ≡ self.micros }
-    {
-        self.micros
     }
 
     /// A moment after this one. Refuses one that is before it, or past the day's end.

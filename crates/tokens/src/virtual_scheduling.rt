@@ -21,6 +21,7 @@ pub struct VirtualScheduling {
 
 impl VirtualScheduling {
     // A moment that is not before the latest one, times the rate; and how that compares with the latest one.
+    #[tactic(auto, using(crate::proofs::Products::gained_since_start))]
     fn arrival(&self, moment: Time) -> u64
         requires { self.now.latest.micros ≤ moment.micros }
         ensures value { result ≡ self.now.limits.rate * moment.micros }
