@@ -8,7 +8,7 @@ use Rattle.tokens.specs.declared.refusal.Refusal.{Refusal}
 use Rattle.tokens.specs.declared.refusal.Refusal.TheVariants.{NoTokens, BeforeLatest, AfterDayEnd, RateOrBurst}
 use Rattle.tokens.specs.contracts.calls.Answer.{the_type as the_answer}
 use Rattle.tokens.specs.contracts.refusal.Refusal.{the_type as the_refusal}
-use Rattle.tokens.proofs.Forms.{false_is_not_true}
+use Rattle.std.proofs.lemmas.Bool.{false≢true}
 
 abbrev numbered : ℕ → Refusal
 numbered n = cond (n == 8) NoTokens (cond (n == 10) BeforeLatest (cond (n == 11) AfterDayEnd RateOrBurst))
@@ -24,8 +24,8 @@ equal = result_eq (sameb the_answer) (sameb the_refusal)
 
 pub equal_tell_alike : (a b : Result Answer Refusal) → equal a b ≡ true → told a ≡ told b
 equal_tell_alike (Ok x) (Ok y) same = ap answered (same_true the_answer (search rules) x y same)
-equal_tell_alike (Ok x) (Err d) same = absurd (false_is_not_true same)
-equal_tell_alike (Err e) (Ok y) same = absurd (false_is_not_true same)
+equal_tell_alike (Ok x) (Err d) same = absurd (false≢true same)
+equal_tell_alike (Err e) (Ok y) same = absurd (false≢true same)
 equal_tell_alike (Err e) (Err d) same = ap (λ cause. refused (number cause)) (same_true the_refusal (search rules) e d same)
 
 pub alike_are_equal : (a b : Result Answer Refusal) → told a ≡ told b → equal a b ≡ true

@@ -1,5 +1,6 @@
 -- The form of a meter does not matter: what it tells follows from what it means. Assumes nothing.
-use Rattle.std.proofs.Common.{◌≡◌, ℕ, ◌+◌, ◌<◌, ◌≤◌, true, false, List, [], ◌∷◌, map, length, get_or, drop, Decides, sym, refl, ◌∙◌, arith}
+use Rattle.std.proofs.Common.{◌≡◌, ℕ, ◌+◌, ◌<◌, ◌≤◌, false, List, [], ◌∷◌, map, length, get_or, drop, Decides, sym, refl, ◌∙◌, arith}
+use Rattle.std.proofs.lemmas.Bool.{false≢true}
 use Rattle.std.proofs.lemmas.List.{at_drop_all, at_drop_more}
 use Rattle.tokens.specs.Histories.{AnswerAlike, Event, History, Kept, answer, answers, after}
 use Rattle.tokens.specs.Meters.{Metered}
@@ -21,9 +22,6 @@ module _ {M N : Type 0} (m_meaning : M → Metered) (n_meaning : N → Metered) 
 
   pub answer_alike : AnswerAlike m_meaning n_meaning
   answer_alike rate burst m m_last n n_last m_new n_new = same_meaning_tells_alike m m_last n n_last (m_new ∙ sym n_new)
-
-pub false_is_not_true : false ≡ true → ⊥
-false_is_not_true e = let z : ◌≡◌ {A = ℕ} 0 1 = cc in omega arith
 
 -- two meters tell the same from `i` on just where they tell the same throughout, as long as they did so before
 pub record SameSoFar (m₀ n₀ : Metered) (calls : List Call) (m n : Metered) (i : ℕ) : Type 0 where
@@ -48,7 +46,7 @@ module _ (m₀ n₀ : Metered) (calls : List Call) (i : ℕ) (d : Call) (within 
 
     pub differ : (t ≡ u → ⊥) → Decides false (answers m₀ calls ≡ answers n₀ calls)
     differ first = (
-      λ e. absurd (false_is_not_true e),
+      λ e. absurd (false≢true e),
       λ whole. let now = so_far.onward whole in absurd (first (cc (from_here m, from_here n))),
     )
 

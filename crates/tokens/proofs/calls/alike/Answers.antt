@@ -1,14 +1,14 @@
 use Rattle.std.proofs.Common.{sym, refl, ◌∙◌}
-use Rattle.std.proofs.lemmas.Bool.{not-true, not-false}
+use Rattle.std.proofs.lemmas.Bool.{false≢true, not-true, not-false}
 use Rattle.tokens.proofs.Bounds.{keeps_to_limits}
 use Rattle.tokens.proofs.Comparing.{alike_are_equal, equal_tell_alike}
-use Rattle.tokens.proofs.Forms.{answer_alike, differ, false_is_not_true, same_all, same_more}
+use Rattle.tokens.proofs.Forms.{answer_alike, differ, same_all, same_more}
 use Rattle.tokens.proofs.calls.alike.Goals as goal
 
 pub returns-then-ne : goal.returns-then-ne
 returns-then-ne g c =
     record {
-      value = differ _ _ _ _ _ c.loop-call-test.true _ _ _ _ _ _ c.loop-call.invariant c.put.ensures.kept c.put-in-loop-call.ensures.kept (λ told. false_is_not_true (sym (not-true _ (sym c.ne.ensures ∙ c.if-ne.true)) ∙ alike_are_equal _ _ told));
+      value = differ _ _ _ _ _ c.loop-call-test.true _ _ _ _ _ _ c.loop-call.invariant c.put.ensures.kept c.put-in-loop-call.ensures.kept (λ told. false≢true (sym (not-true _ (sym c.ne.ensures ∙ c.if-ne.true)) ∙ alike_are_equal _ _ told));
       law = answer_alike _ _;
       limits = keeps_to_limits _;
     }
