@@ -36,6 +36,23 @@ module _ {A : Type 0} (answer : A) where
     refused_tells [] told = let z : ◌≡◌ {A = ℕ} 0 1 = cc in absurd (omega arith)
     refused_tells (c ∷ cs) told = one_refused c.applies c.number _ _ _ (refused_tells cs) told
 
+  -- as the checks alone tell it, where they answer with a moment
+  one_passed_as : (applies : Bool) (number : ℕ) (given : A) (rest : Told A) (alone : Told (Unit {0})) → (answered given ≡ rest → (answered tt ≡ alone) × (given ≡ answer)) → answered given ≡ cond applies (refused number) rest → (answered tt ≡ cond applies (refused number) alone) × (given ≡ answer)
+  one_passed_as true number given rest alone more told = let z : ◌≡◌ {A = ℕ} 0 1 = cc in absurd (omega arith)
+  one_passed_as false number given rest alone more told = more told
+
+  pub passed_as : (given : A) (cs : List Cause) → answered given ≡ unless_refused cs answer → (answered tt ≡ checked cs) × (given ≡ answer)
+  passed_as given [] told = let same : given ≡ answer = cc in (refl, same)
+  passed_as given (c ∷ cs) told = one_passed_as c.applies c.number given _ _ (passed_as given cs) told
+
+  one_refused_as : (n : ℕ) (applies : Bool) (number : ℕ) (rest : Told A) (alone : Told (Unit {0})) → (refused n ≡ rest → refused n ≡ alone) → refused n ≡ cond applies (refused number) rest → refused n ≡ cond applies (refused number) alone
+  one_refused_as n true number rest alone more told = let same : n ≡ number = cc in ap refused same
+  one_refused_as n false number rest alone more told = more told
+
+  pub refused_as : (n : ℕ) (cs : List Cause) → refused n ≡ unless_refused cs answer → refused n ≡ checked cs
+  refused_as n [] told = let z : ◌≡◌ {A = ℕ} 0 1 = cc in absurd (omega arith)
+  refused_as n (c ∷ cs) told = one_refused_as n c.applies c.number _ _ (refused_as n cs) told
+
   pub keeps_by_answer : (cs : List Cause) (told : Told A) (before after left : Seen) → answered tt ≡ checked cs → told ≡ answered answer → left ≡ after → Keeps cs told answer before after left
   keeps_by_answer cs told before after left passed nat_tests leaves =
       let done = passed_answers cs (sym passed) in

@@ -8,4 +8,4 @@ use Rattle.envelopes.specs.declared.envelope.Envelope.{Envelope}
 -- the envelope and the buckets that it was handed, whose meaning is given by `volume` and `count`, before and after
 abbrev pub Promised : {B : Type 0} → (B → ℕ) → (B → ℕ) → Envelope → List B → Call → Envelope → List B → Type 0
 Promised volume count e buckets call e' buckets' =
-    Promise (profile e.draft) (sees volume count e.latest buckets) call (sees volume count e'.latest buckets')
+    Promise (profile e.draft) (sees volume count e.latest.micros buckets) call (sees volume count e'.latest.micros buckets')

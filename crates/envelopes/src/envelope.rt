@@ -1,12 +1,12 @@
 // An envelope: a draft that is open, and the latest moment of its buckets. An envelope is moved, never copied; its
 // buckets are the caller's, and are handed to each call.
-ghost use Rattle.std.specs.Prelude.{◌≡◌, ◌≤◌};
+ghost use Rattle.std.specs.Prelude.{◌≡◌};
 ghost use Rattle.envelopes.specs.Drafts.{profile};
 ghost use Rattle.envelopes.specs.Guarantee.{ShareGuarantee};
 ghost use Rattle.envelopes.specs.Histories.{by_meaning};
-ghost use Rattle.tokens.specs.Units.{day_end};
 
 use crate::draft::Draft;
+use tokens::time::Time;
 
 mod calls;
 mod checks;
@@ -16,8 +16,7 @@ mod steps;
 #[derive(Drop)]
 pub struct Envelope {
     draft: Draft,
-    latest: u64,
-    ghost day: { latest ≤ day_end },
+    latest: Time,
 }
 
 impl Draft {
@@ -25,12 +24,12 @@ impl Draft {
     /// its flows get their shares.
     pub fn open(self) -> Envelope
         ensures draft { result.draft ≡ self }
-        ensures latest { result.latest ≡ 0 }
+        ensures latest { result.latest.micros ≡ 0 }
         ensures shares { ShareGuarantee by_meaning by_meaning (λ meter. meter) (profile self) }
     {
         Envelope {
             draft: self,
-            latest: 0,
+            latest: Time::start(),
         }
     }
 }
@@ -46,8 +45,8 @@ impl Envelope {
 
     /// The moment of the last request or advance that was accepted, 0 if there was none.
     pub fn latest(&self) -> u64
-        ensures { result ≡ self.now.latest }
+        ensures { result ≡ self.now.latest.micros }
     {
-        self.latest
+        self.latest.micros
     }
 }

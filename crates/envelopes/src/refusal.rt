@@ -1,20 +1,23 @@
 // Why a call is refused.
 ghost use Rattle.std.specs.Prelude.{◌≡◌};
-ghost use Rattle.envelopes.specs.Refusals.{number as number_of};
+ghost use Rattle.envelopes.specs.Refusals.{number as number_of, of_moment};
 
+use tokens::time::MomentRefusal;
+
+/// Each is the number under which customers know it.
 #[derive(Clone, Copy, PartialEq, Eq, Debug)]
 pub enum Refusal {
-    Rate,
-    Maximum,
-    Volume,
-    NinthFlow,
-    SumOfRates,
-    BothFlags,
-    Buckets,
-    NoTokens,
-    Rank,
-    BeforeLatest,
-    AfterDayEnd,
+    Rate = 1,
+    Maximum = 2,
+    Volume = 3,
+    NinthFlow = 4,
+    SumOfRates = 5,
+    BothFlags = 6,
+    Buckets = 7,
+    NoTokens = 8,
+    Rank = 9,
+    BeforeLatest = 10,
+    AfterDayEnd = 11,
 }
 
 impl Refusal {
@@ -22,18 +25,17 @@ impl Refusal {
     pub fn number(self) -> u8
         ensures { result ≡ number_of self }
     {
-        match self {
-            Refusal::Rate => 1,
-            Refusal::Maximum => 2,
-            Refusal::Volume => 3,
-            Refusal::NinthFlow => 4,
-            Refusal::SumOfRates => 5,
-            Refusal::BothFlags => 6,
-            Refusal::Buckets => 7,
-            Refusal::NoTokens => 8,
-            Refusal::Rank => 9,
-            Refusal::BeforeLatest => 10,
-            Refusal::AfterDayEnd => 11,
+        self as u8
+    }
+}
+
+impl From<MomentRefusal> for Refusal {
+    ghost from_gives = { λ cause refusal. refusal ≡ of_moment cause };
+
+    fn from(cause: MomentRefusal) -> Self {
+        match cause {
+            MomentRefusal::TooEarly => Refusal::BeforeLatest,
+            MomentRefusal::TooLate => Refusal::AfterDayEnd,
         }
     }
 }

@@ -32,7 +32,7 @@ impl Envelope {
         ensures draft { self.new.draft ≡ self.old.draft }
         ensures refused { is_err result ≡ true → (self.new ≡ self.old) × (buckets.new ≡ buckets.old) }
     {
-        self.check_advance(buckets, moment)?;
+        let moment = self.check_advance(buckets, moment)?;
         self.move_to(buckets, moment);
         Ok(())
     }
@@ -47,9 +47,9 @@ impl Envelope {
         ensures draft { self.new.draft ≡ self.old.draft }
         ensures refused { is_err result ≡ true → (self.new ≡ self.old) × (buckets.new ≡ buckets.old) }
     {
-        self.check_request(buckets, request)?;
+        let moment = self.check_request(buckets, request)?;
         let flows = self.flows();
-        self.move_to(buckets, request.moment);
+        self.move_to(buckets, moment);
         Ok(declare(flows, buckets, request))
     }
 

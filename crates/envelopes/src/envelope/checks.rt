@@ -3,8 +3,7 @@ ghost use Rattle.std.specs.Prelude.{◌≡◌, ◌||◌, map, length, ◌==◌, 
 ghost use Rattle.envelopes.specs.Drafts.{profile};
 ghost use Rattle.envelopes.specs.Histories.{sees};
 ghost use Rattle.envelopes.specs.Promises.{advance_causes, judge_causes, read_causes, same as same_numbers, volumes as volumes_of};
-ghost use Rattle.envelopes.specs.Refusals.{told};
-ghost use Rattle.tokens.specs.Meters.{moment_causes};
+ghost use Rattle.envelopes.specs.Refusals.{told, told_by};
 ghost use Rattle.tokens.specs.Refusals.{unless_refused};
 
 use crate::buckets::fit;
@@ -12,7 +11,7 @@ use crate::colour::Request;
 use crate::envelope::Envelope;
 use crate::refusal::Refusal;
 use tokens::bucket::Bucket;
-use tokens::units::DAY_END;
+use tokens::time::Time;
 
 impl Envelope {
     // The number of flows.
@@ -31,37 +30,30 @@ impl Envelope {
     fn lacks(&self, rank: u8) -> bool
         ensures { result ≡ (rank == 0 || nat_lt (length (profile self.now.draft).flows) rank) }
     {
-        rank == 0 || rank as usize > self.flows()
+        rank == 0 || usize::from(rank) > self.flows()
     }
 
-    // Refuses a moment before the latest one, or past the day's end.
-    fn check_moment(&self, moment: u64) -> Result<(), Refusal>
-        ensures { told result ≡ unless_refused (moment_causes self.now.latest moment) tt }
-    {
-        if moment < self.latest {
-            return Err(Refusal::BeforeLatest);
-        }
-        if moment > DAY_END {
-            return Err(Refusal::AfterDayEnd);
-        }
-        Ok(())
-    }
-
-    pub(crate) fn check_advance<B: Bucket>(&self, buckets: &[B], moment: u64) -> Result<(), Refusal>
-        ensures { told result ≡ unless_refused (advance_causes (profile self.now.draft) (sees B.Bucket.volume B.Bucket.count self.now.latest buckets.now) moment) tt }
+    // The moment to advance to.
+    pub(crate) fn check_advance<B: Bucket>(
+        &self,
+        buckets: &[B],
+        moment: u64,
+    ) -> Result<Time, Refusal>
+        ensures { told_by (λ time. time.micros) result ≡ unless_refused (advance_causes (profile self.now.draft) (sees B.Bucket.volume B.Bucket.count self.now.latest.micros buckets.now) moment) moment }
     {
         if !self.fits(buckets) {
             return Err(Refusal::Buckets);
         }
-        self.check_moment(moment)
+        Ok(self.latest.next(moment)?)
     }
 
+    // The moment of a request.
     pub(crate) fn check_request<B: Bucket>(
         &self,
         buckets: &[B],
         request: Request,
-    ) -> Result<(), Refusal>
-        ensures { told result ≡ unless_refused (judge_causes (profile self.now.draft) (sees B.Bucket.volume B.Bucket.count self.now.latest buckets.now) request) tt }
+    ) -> Result<Time, Refusal>
+        ensures { told_by (λ time. time.micros) result ≡ unless_refused (judge_causes (profile self.now.draft) (sees B.Bucket.volume B.Bucket.count self.now.latest.micros buckets.now) request) request.moment }
     {
         if !self.fits(buckets) {
             return Err(Refusal::Buckets);
@@ -72,11 +64,11 @@ impl Envelope {
         if self.lacks(request.rank) {
             return Err(Refusal::Rank);
         }
-        self.check_moment(request.moment)
+        Ok(self.latest.next(request.moment)?)
     }
 
     pub(crate) fn check_read<B: Bucket>(&self, buckets: &[B], rank: u8) -> Result<(), Refusal>
-        ensures { told result ≡ unless_refused (read_causes (profile self.now.draft) (sees B.Bucket.volume B.Bucket.count self.now.latest buckets.now) rank) tt }
+        ensures { told result ≡ unless_refused (read_causes (profile self.now.draft) (sees B.Bucket.volume B.Bucket.count self.now.latest.micros buckets.now) rank) tt }
     {
         if !self.fits(buckets) {
             return Err(Refusal::Buckets);

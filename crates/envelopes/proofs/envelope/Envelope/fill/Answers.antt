@@ -13,7 +13,7 @@ pub returns-then-buckets-flows : goal.returns-then-buckets-flows
 returns-then-buckets-flows g c =
     let self = c.args.self.now in
     let bs = c.args.buckets.now in
-    let seen = sees g.B.Bucket.volume g.B.Bucket.count self.latest bs in
+    let seen = sees g.B.Bucket.volume g.B.Bucket.count self.latest.micros bs in
     let many = length-map bs g.B.Bucket.volume in
     record {
       promise = keeps_by_refusal tt (fill_causes (profile self.draft) seen) 7 _ seen (filled (profile self.draft) seen) _ (wrong_number_refused (profile self.draft) seen (λ e. c.if-buckets-flows.true (omega (arith, e, many, c.flows.ensures)))) refl refl;
@@ -34,7 +34,7 @@ pub returns : goal.returns
 returns g c =
     let self = c.args.self.now in
     let bs = c.args.buckets.now in
-    let seen = sees g.B.Bucket.volume g.B.Bucket.count self.latest bs in
+    let seen = sees g.B.Bucket.volume g.B.Bucket.count self.latest.micros bs in
     let many = length-map bs g.B.Bucket.volume in
     let rows = ap volumes (their_flows self.draft _ c.rows.ensures) in
     record {

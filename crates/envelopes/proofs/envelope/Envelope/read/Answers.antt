@@ -10,7 +10,7 @@ use Rattle.envelopes.proofs.envelope.Envelope.read.Goals as goal
 pub counts_of-requires : goal.counts_of-requires
 counts_of-requires g c =
     let self = c.args.self.now in
-    let seen = sees g.B.Bucket.volume g.B.Bucket.count self.latest c.args.buckets.now in
+    let seen = sees g.B.Bucket.volume g.B.Bucket.count self.latest.micros c.args.buckets.now in
     let known = read_passed (profile self.draft) seen c.args.rank c.in_ok-check_read.ensures in
     let even = fitting_are_even g.B.Bucket.volume _ _ known.0 in
     record {
@@ -23,6 +23,6 @@ pub returns : goal.returns
 returns g c =
     let self = c.args.self.now in
     let counts = map g.B.Bucket.count c.args.buckets.now in
-    let seen = sees g.B.Bucket.volume g.B.Bucket.count self.latest c.args.buckets.now in
+    let seen = sees g.B.Bucket.volume g.B.Bucket.count self.latest.micros c.args.buckets.now in
     let told = c.counts_of.ensures ∙ ap (λ n. rank_counts (parted n counts) c.args.rank) c.flows.ensures in
     keeps_by_answer _ (read_causes (profile self.draft) seen c.args.rank) _ seen seen _ c.in_ok-check_read.ensures (ap answered told) refl
