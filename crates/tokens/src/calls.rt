@@ -53,7 +53,9 @@ pub fn alike<M: Meter, N: Meter>(mut m: M, mut n: N, calls: &[Call]) -> bool
     ensures limits { KeepsToLimits M.Meter.meaning }
 {
     for call in calls {
-        if put(&mut m, *call) != put(&mut n, *call) {
+        let one = put(&mut m, *call);
+        let other = put(&mut n, *call);
+        if one != other {
             return false;
         }
     }

@@ -8,14 +8,14 @@ use Rattle.tokens.proofs.calls.alike.Goals as goal
 pub returns-then-ne : goal.returns-then-ne
 returns-then-ne g c =
     record {
-      value = differ _ _ _ _ _ c.loop-call-test.true _ _ _ _ _ _ c.loop-call.invariant c.put.ensures.kept c.put-in-loop-call.ensures.kept (λ told. false≢true (sym (not-true _ (sym c.ne.ensures ∙ c.if-ne.true)) ∙ alike_are_equal _ _ told));
+      value = differ _ _ _ _ _ c.loop-call-test.true _ _ _ _ _ _ c.loop-call.invariant c.put-one.ensures.kept c.put-other.ensures.kept (λ told. false≢true (sym (not-true _ (sym c.ne.ensures ∙ c.if-ne.true)) ∙ alike_are_equal _ _ told));
       law = answer_alike _ _;
       limits = keeps_to_limits _;
     }
 
 pub loop-call-preserved : goal.loop-call-preserved
 loop-call-preserved g c =
-    same_more _ _ _ _ _ c.loop-call-test.true _ _ _ _ _ _ c.loop-call.invariant c.put.ensures.kept c.put-in-loop-call.ensures.kept (equal_tell_alike _ _ (not-false _ (sym c.ne.ensures ∙ c.if-ne.false)))
+    same_more _ _ _ _ _ c.loop-call-test.true _ _ _ _ _ _ c.loop-call.invariant c.put-one.ensures.kept c.put-other.ensures.kept (equal_tell_alike _ _ (not-false _ (sym c.ne.ensures ∙ c.if-ne.false)))
 
 pub returns : goal.returns
 returns g c =
