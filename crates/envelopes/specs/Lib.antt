@@ -6,6 +6,7 @@ pub mod Drafts
 pub mod Growth
 pub mod Income
 pub mod Updates
+pub mod Colours
 pub mod Colouring
 pub mod Promises
 pub mod Histories
