@@ -1,14 +1,9 @@
 -- The lines that the program prints; byte 10 ends a line. Assumes nothing.
 use Rattle.std.specs.Prelude.{ℕ, List, [], ◌∷◌, ◌++◌, codes, decimal}
 use Rattle.tokens.specs.Refusals.{Told, answered, refused}
+use Rattle.envelopes.specs.Colours.{colour_name}
 use Rattle.envelopes.specs.declared.colour.Colour.{Colour}
-use Rattle.envelopes.specs.declared.colour.Colour.TheVariants.{Green, Yellow, Red}
 use Rattle.envelopes.specs.declared.colour.Request.{Request}
-
-abbrev pub colour_name : Colour → List ℕ
-colour_name Green = codes "Green"
-colour_name Yellow = codes "Yellow"
-colour_name Red = codes "Red"
 
 -- why a call is refused, by its number
 abbrev pub refusal_line : ℕ → List ℕ

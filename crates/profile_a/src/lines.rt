@@ -1,22 +1,12 @@
 // The lines that the program prints.
 ghost use Rattle.std.specs.Prelude.{◌≡◌, ◌++◌, string_bytes, OnOk};
 ghost use Rattle.envelopes.specs.Refusals.{number as number_of, told};
-ghost use Rattle.profile_a.specs.Lines.{colour_line, colour_name, counts_line, rank_line, refusal_line, refused_rank_line, refused_request_line, request_line};
+ghost use Rattle.profile_a.specs.Lines.{colour_line, counts_line, rank_line, refusal_line, refused_rank_line, refused_request_line, request_line};
 
 use envelopes::colour::{Colour, Request};
 use envelopes::refusal::Refusal;
 use std::alloc::AllocError;
 use std::fmt::Write;
-
-fn name(colour: Colour) -> &'static str
-    ensures { result.now ≡ colour_name colour }
-{
-    match colour {
-        Colour::Green => "Green",
-        Colour::Yellow => "Yellow",
-        Colour::Red => "Red",
-    }
-}
 
 pub(crate) fn write_refusal(out: &mut String, refusal: Refusal) -> Result<(), AllocError>
     ensures { OnOk result (string_bytes out.new ≡ string_bytes out.old ++ refusal_line (number_of refusal)) }
@@ -35,8 +25,7 @@ fn write_colour(
 {
     let moment = request.moment;
     let rank = request.rank;
-    let name = name(colour);
-    writeln!(out, "{number} {moment} {rank} {name}")
+    writeln!(out, "{number} {moment} {rank} {colour}")
 }
 
 fn write_refused_request(
