@@ -1,24 +1,18 @@
 // Two flows and six requests, all for Green: which colours they get, and what is left.
 #![tactic(auto)]
 
-mod lines;
 mod profile;
 mod report;
 mod requests;
 
 use crate::report::write_report;
-use std::io::Write;
 use tokens::bucket::Bucket;
 use tokens::counting::CountingBucket;
 
-fn run(rt: &HostRuntime) -> anyhow::Result<()> {
+fn main(rt: HostRuntime) -> anyhow::Result<()> {
     let mut text = String::new(rt.alloc());
     let mut buckets = [CountingBucket::make(0); 4];
     write_report(&mut buckets, &mut text)?;
-    rt.stdout().write_all(text.as_bytes())?;
+    rt.print(&text)?;
     Ok(())
-}
-
-fn main(rt: HostRuntime) -> anyhow::Result<()> {
-    run(&rt)
 }

@@ -1,6 +1,6 @@
 // The requests, in the order in which they are made.
-ghost use Rattle.std.specs.Prelude.{◌≡◌, ◌<◌};
-ghost use Rattle.profile_a.specs.Requests.{all_six, asking_green, request_at};
+ghost use Rattle.std.specs.Prelude.{◌≡◌};
+ghost use Rattle.profile_a.specs.Requests.{all_six, asking_green};
 
 use envelopes::colour::{Colour, Request};
 
@@ -15,7 +15,7 @@ fn ask_green(moment: u64, rank: u8, tokens: u32) -> Request
     }
 }
 
-fn six_requests() -> [Request; 6]
+pub(crate) fn six_requests() -> [Request; 6]
     ensures { result ≡ all_six }
 {
     [
@@ -26,13 +26,4 @@ fn six_requests() -> [Request; 6]
         ask_green(1_000, 1, 1_000),
         ask_green(2_001_000, 1, 501),
     ]
-}
-
-// A request by its place, from 0.
-pub(crate) fn nth_request(place: u64) -> Request
-    requires { place < 6 }
-    ensures { result ≡ request_at place }
-{
-    let requests = six_requests();
-    requests[place as usize]
 }
