@@ -1,5 +1,5 @@
 -- No request is refused, and each gets its colour; what is read at last. Assumes nothing.
-use Rattle.std.proofs.Common.{◌≡◌, ℕ, zero, suc, ◌+◌, ◌<◌, List, ◌++◌, Result, get_or, sym, refl, ap, subst, ◌∙◌, append_assoc, add-one, arith}
+use Rattle.std.proofs.Common.{◌≡◌, ℕ, zero, suc, ◌+◌, ◌<◌, ◌≤◌, List, [], ◌++◌, get_or, refl, append_assoc, add-one, arith}
 use Rattle.tokens.specs.Refusals.{Told, answered}
 use Rattle.envelopes.specs.Figures.{the_profile_a}
 use Rattle.envelopes.specs.Profiles.{Profile}
@@ -7,13 +7,10 @@ use Rattle.envelopes.specs.Promises.{Seen}
 use Rattle.envelopes.specs.declared.colour.Colour.{Colour}
 use Rattle.envelopes.specs.declared.colour.Colour.TheVariants.{Red}
 use Rattle.envelopes.specs.declared.colour.Request.{Request}
-use Rattle.profile_a.specs.Day.{first_lines, report_text, seen_after, six_colours}
+use Rattle.profile_a.specs.Day.{first_lines, last_lines, report_text, seen_after, six_colours}
 use Rattle.profile_a.specs.Judging.{judge_left, judge_told, read_told}
 use Rattle.profile_a.specs.Lines.{colour_line, counts_line, rank_line, request_line}
 use Rattle.profile_a.specs.Requests.{request_at}
-use Rattle.profile_a.specs.Stops.{Writes}
-use Rattle.profile_a.specs.declared.report.Stop.{Stop}
-use Rattle.profile_a.proofs.Stops.{writes_on}
 
 abbrev pub colour_at_place : ℕ → Colour
 colour_at_place i = get_or six_colours i Red
@@ -29,29 +26,40 @@ coloured (suc (suc (suc (suc (suc (suc i)))))) h = absurd (omega arith)
 
 -- a request at its place, upon what those before it left
 module _ (i : ℕ) (p : Profile) (s : Seen) (q : Request) (small : i < 6) (p_is : p ≡ the_profile_a) (s_is : s ≡ seen_after i) (q_is : q ≡ request_at i) where
-  pub told_is : judge_told p s q ≡ answered (colour_at_place i)
-  told_is = ap (λ x. judge_told x s q) p_is ∙ ap (λ x. judge_told the_profile_a x q) s_is ∙ ap (λ x. judge_told the_profile_a (seen_after i) x) q_is ∙ coloured i small
+  pub request_told_is : judge_told p s q ≡ answered (colour_at_place i)
+  request_told_is = cc (coloured i small)
 
   pub left_is : judge_left p s q ≡ seen_after (i + 1)
-  left_is =
-      ap (λ x. judge_left x s q) p_is ∙ ap (λ x. judge_left the_profile_a x q) s_is ∙ ap (λ x. judge_left the_profile_a (seen_after i) x) q_is ∙ ap seen_after (sym (add-one i))
+  left_is = cc (add-one i)
 
-  pub lines_are : (before out after : List ℕ) → out ≡ before ++ first_lines i → after ≡ out ++ request_line (i + 1) q (judge_told p s q) → after ≡ before ++ first_lines (i + 1)
-  lines_are before out after out_is after_is =
-      after_is ∙ ap (λ x. out ++ request_line (i + 1) q x) told_is ∙ ap (λ x. out ++ colour_line (i + 1) x (get_or six_colours i Red)) q_is ∙
-      ap (λ x. x ++ colour_line (i + 1) (request_at i) (get_or six_colours i Red)) out_is ∙ append_assoc before (first_lines i) _ ∙
-      ap (λ n. before ++ first_lines n) (sym (add-one i))
+pub lines_are : (i : ℕ) (q : Request) (told : Told Colour) → q ≡ request_at i → told ≡ answered (colour_at_place i) → (before out after : List ℕ) → out ≡ before ++ first_lines i → after ≡ out ++ request_line (i + 1) q told → after ≡ before ++ first_lines (i + 1)
+lines_are i q told q_is told_is before out after out_is after_is = cc (append_assoc before (first_lines i) (colour_line (i + 1) q (colour_at_place i)), add-one i)
 
--- the ranks, upon what all requests left
-module _ (i : ℕ) (p : Profile) (s : Seen) (all : i ≡ 6) (p_is : p ≡ the_profile_a) (s_is : s ≡ seen_after i) where
-  pub read_is : (rank : ℕ) → read_told p s rank ≡ read_told the_profile_a (seen_after 6) rank
-  read_is rank = ap (λ x. read_told x s rank) p_is ∙ ap (λ x. read_told the_profile_a x rank) (s_is ∙ ap seen_after all)
+abbrev pub counts_at_rank : ℕ → ℕ × ℕ
+counts_at_rank zero = (0, 0)
+counts_at_rank (suc zero) = (500_000_000, 1_498_000_000)
+counts_at_rank (suc (suc i)) = (1_500_000_000, 0)
 
-  pub both_ranks : (r : Result (Unit {0}) Stop) (before out one after : List ℕ) → out ≡ before ++ first_lines i → one ≡ out ++ rank_line 1 (read_told p s 1) → Writes r one after (rank_line 2 (read_told p s 2)) → Writes r before after report_text
-  both_ranks r before out one after out_is one_is two =
-      let lines : ℕ → List ℕ = λ rank. rank_line rank (read_told the_profile_a (seen_after 6) rank) in
-      let first : one ≡ before ++ (first_lines 6 ++ lines 1) =
-      one_is ∙ ap (λ x. out ++ rank_line 1 x) (read_is 1) ∙ ap (λ x. x ++ lines 1) (out_is ∙ ap (λ n. before ++ first_lines n) all) ∙
-      append_assoc before (first_lines 6) (lines 1) in
-      let last : Writes r one after (lines 2) = subst (λ (x : Told (ℕ × ℕ)). Writes r one after (rank_line 2 x)) (read_is 2) two in
-      subst (λ (x : List ℕ). Writes r before after x) (append_assoc (first_lines 6) (lines 1) (lines 2)) (writes_on r before one after (first_lines 6 ++ lines 1) (lines 2) first last)
+counted : (rank : ℕ) → 1 ≤ rank → rank ≤ 2 → read_told the_profile_a (seen_after 6) rank ≡ answered (counts_at_rank rank)
+counted zero some few = absurd (omega arith)
+counted (suc zero) some few = refl
+counted (suc (suc zero)) some few = refl
+counted (suc (suc (suc i))) some few = absurd (omega arith)
+
+-- a rank, upon what all requests left
+pub rank_told_is : (rank i : ℕ) (p : Profile) (s : Seen) → 1 ≤ rank → rank ≤ 2 → i ≡ 6 → p ≡ the_profile_a → s ≡ seen_after i → read_told p s rank ≡ answered (counts_at_rank rank)
+rank_told_is rank i p s some few all p_is s_is = cc (counted rank some few)
+
+-- the lines of the ranks below one
+abbrev pub lines_below : ℕ → List ℕ
+lines_below zero = []
+lines_below (suc zero) = []
+lines_below (suc (suc i)) = lines_below (suc i) ++ counts_line (suc i) (counts_at_rank (suc i)).0 (counts_at_rank (suc i)).1
+
+pub one_rank_more : (rank : ℕ) (told : Told (ℕ × ℕ)) → 1 ≤ rank → told ≡ answered (counts_at_rank rank) → (before out after : List ℕ) → out ≡ before ++ lines_below rank → after ≡ out ++ rank_line rank told → after ≡ before ++ lines_below (rank + 1)
+one_rank_more zero told some told_is before out after out_is after_is = absurd (omega arith)
+one_rank_more (suc i) told some told_is before out after out_is after_is =
+    cc (append_assoc before (lines_below (suc i)) (counts_line (suc i) (counts_at_rank (suc i)).0 (counts_at_rank (suc i)).1), add-one (suc i))
+
+pub ranks_are : (i rank : ℕ) → i ≡ 6 → rank ≡ 3 → (before out after : List ℕ) → out ≡ before ++ first_lines i → after ≡ out ++ lines_below rank → after ≡ before ++ report_text
+ranks_are i rank all both before out after out_is after_is = cc (append_assoc before (first_lines 6) last_lines)

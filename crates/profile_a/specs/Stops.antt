@@ -4,8 +4,8 @@ use Rattle.tokens.specs.Refusals.{Told, refused}
 use Rattle.envelopes.specs.Histories.{is_answer}
 use Rattle.envelopes.specs.Refusals.{number}
 use Rattle.profile_a.specs.Lines.{refusal_line}
-use Rattle.profile_a.specs.declared.report.Stop.{Stop}
-use Rattle.profile_a.specs.declared.report.Stop.TheVariants.{Refused, OutOfMemory}
+use Rattle.profile_a.specs.declared.stop.Stop.{Stop}
+use Rattle.profile_a.specs.declared.stop.Stop.TheVariants.{Refused, OutOfMemory}
 
 -- a text is written, but for the refusal that is handed on
 abbrev pub Writes : Result (Unit {0}) Stop → List ℕ → List ℕ → List ℕ → Type 0

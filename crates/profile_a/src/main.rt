@@ -1,9 +1,11 @@
 // Two flows and six requests, all for Green: which colours they get, and what is left.
 #![tactic(auto)]
 
+mod lines;
 mod profile;
 mod report;
 mod requests;
+mod stop;
 
 use crate::report::write_report;
 use tokens::bucket::Bucket;

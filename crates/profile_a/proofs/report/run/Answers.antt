@@ -1,38 +1,48 @@
-use Rattle.std.proofs.Common.{◌≡◌, ◌<◌, List, length, get_or, ap, ◌∙◌, refl, arith}
+use Rattle.std.proofs.Common.{◌≡◌, ◌<◌, List, get_or, ap, ◌∙◌, arith}
 use Rattle.envelopes.specs.Drafts.{profile}
 use Rattle.envelopes.specs.declared.colour.Request.{Request}
-use Rattle.profile_a.proofs.Colours.{both_ranks, left_is, lines_are, read_is, told_is}
+use Rattle.profile_a.proofs.Colours.{left_is, lines_are, one_rank_more, rank_told_is, ranks_are, request_told_is}
 use Rattle.profile_a.proofs.Stops.{stops_for_memory}
 use Rattle.profile_a.specs.Requests.{asking_green}
 use Rattle.profile_a.proofs.report.run.Goals as goal
 
-pub returns-in_err-judge_one : goal.returns-in_err-judge_one
-returns-in_err-judge_one g c =
+pub returns-in_err-write_answer : goal.returns-in_err-write_answer
+returns-in_err-write_answer g c =
     let inv = c.loop-i.invariant in
     let small : c.loop-i.i < 6 = omega arith in
     let request = ap (λ (xs : List Request). get_or xs c.loop-i.i (asking_green 0 0 0)) c.six_requests.ensures in
-    stops_for_memory _ _ _ _ (told_is _ _ _ _ small inv.draft inv.seen request) c.in_err-judge_one.ensures.goes c.from_residual-in_err-judge_one.ensures.1 _ _ _
+    let told = c.judge.ensures.promise.tells ∙ request_told_is _ _ _ _ small inv.draft inv.seen request in
+    stops_for_memory _ _ _ _ told c.in_err-write_answer.ensures.goes c.from_residual-in_err-write_answer.ensures.1 _ _ _
 
 pub loop-i-preserved : goal.loop-i-preserved
 loop-i-preserved g c =
     let inv = c.loop-i.invariant in
-    let one = c.in_ok-judge_one.ensures in
     let small : c.loop-i.i < 6 = omega arith in
     let request = ap (λ (xs : List Request). get_or xs c.loop-i.i (asking_green 0 0 0)) c.six_requests.ensures in
+    let promise = c.judge.ensures.promise in
+    let told = promise.tells ∙ request_told_is _ _ _ _ small inv.draft inv.seen request in
     record {
-      draft = ap profile one.draft ∙ inv.draft;
-      seen = one.after ∙ left_is _ _ _ _ small inv.draft inv.seen request;
-      text = lines_are _ _ _ _ small inv.draft inv.seen request _ _ _ inv.text one.text;
+      draft = ap profile c.judge.ensures.draft ∙ inv.draft;
+      seen = promise.leaves ∙ left_is _ _ _ _ small inv.draft inv.seen request;
+      text = lines_are _ _ _ request told _ _ _ inv.text c.in_ok-write_answer.ensures.text;
     }
 
-pub returns-in_err-read_one : goal.returns-in_err-read_one
-returns-in_err-read_one g c =
+pub returns-in_err-write_rank : goal.returns-in_err-write_rank
+returns-in_err-write_rank g c =
     let inv = c.loop-i.invariant in
-    let all : c.loop-i.i ≡ 6 = omega (arith, ap length c.six_requests.ensures) in
-    stops_for_memory _ _ _ _ (read_is _ _ _ all inv.draft inv.seen 1) c.in_err-read_one.ensures.goes c.from_residual-in_err-read_one.ensures.1 _ _ _
+    let all : c.loop-i.i ≡ 6 = omega arith in
+    let told = c.read.ensures.tells ∙ rank_told_is _ _ _ _ c.loop-rank.auto.rank c.loop-rank-test.true all inv.draft inv.seen in
+    stops_for_memory _ _ _ _ told c.in_err-write_rank.ensures.goes c.from_residual-in_err-write_rank.ensures.1 _ _ _
+
+pub loop-rank-preserved : goal.loop-rank-preserved
+loop-rank-preserved g c =
+    let inv = c.loop-i.invariant in
+    let all : c.loop-i.i ≡ 6 = omega arith in
+    let told = c.read.ensures.tells ∙ rank_told_is _ _ _ _ c.loop-rank.auto.rank c.loop-rank-test.true all inv.draft inv.seen in
+    one_rank_more _ _ c.loop-rank.auto.rank told _ _ _ c.loop-rank.invariant c.in_ok-write_rank.ensures.text
 
 pub returns : goal.returns
 returns g c =
-    let inv = c.loop-i.invariant in
-    let all : c.loop-i.i ≡ 6 = omega (arith, ap length c.six_requests.ensures) in
-    both_ranks _ _ _ all inv.draft inv.seen _ _ _ _ _ inv.text c.in_ok-read_one.ensures.text c.read_one-2.ensures.text
+    let all : c.loop-i.i ≡ 6 = omega arith in
+    let both : c.loop-rank.rank ≡ 3 = omega arith in
+    ranks_are _ _ all both _ _ _ c.loop-i.invariant.text c.loop-rank.invariant

@@ -1,0 +1,41 @@
+// The lines that the program prints, but for a refusal, which is handed on.
+ghost use Rattle.std.specs.Prelude.{string_bytes};
+ghost use Rattle.envelopes.specs.Refusals.{told};
+ghost use Rattle.profile_a.specs.Lines.{rank_line, request_line};
+ghost use Rattle.profile_a.specs.Stops.{GoesOn, Writes};
+
+use crate::stop::Stop;
+use envelopes::colour::{Colour, Request};
+use envelopes::refusal::Refusal;
+use std::fmt::Write;
+
+// A request by its number, its moment and its rank, and then its colour.
+pub(crate) fn write_answer(
+    out: &mut String,
+    number: usize,
+    request: Request,
+    answer: Result<Colour, Refusal>,
+) -> Result<(), Stop>
+    ensures text { Writes result (string_bytes out.old) (string_bytes out.new) (request_line number request (told answer)) }
+    ensures goes { GoesOn result (told answer) }
+{
+    write!(out, "{number} {} {} ", request.moment, request.rank)?;
+    let colour = answer?;
+    writeln!(out, "{colour}")?;
+    Ok(())
+}
+
+// A rank's green and yellow count, in grains.
+pub(crate) fn write_rank(
+    out: &mut String,
+    rank: u8,
+    counts: Result<(u64, u64), Refusal>,
+) -> Result<(), Stop>
+    ensures text { Writes result (string_bytes out.old) (string_bytes out.new) (rank_line rank (told counts)) }
+    ensures goes { GoesOn result (told counts) }
+{
+    write!(out, "rank {rank}: ")?;
+    let (green, yellow) = counts?;
+    writeln!(out, "{green} green, {yellow} yellow grains")?;
+    Ok(())
+}
