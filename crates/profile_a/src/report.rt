@@ -1,5 +1,5 @@
 // The report: the colour of each request, and what each rank is left with.
-ghost use Rattle.std.specs.Prelude.{◌≡◌, ◌++◌, length, string_bytes, OnOk};
+ghost use Rattle.std.specs.Prelude.{◌≡◌, ◌++◌, string_bytes, OnOk};
 ghost use Rattle.profile_a.specs.Day.{report_text};
 ghost use Rattle.profile_a.specs.Stops.{Writes};
 
@@ -12,8 +12,7 @@ use std::fmt::Write;
 use tokens::bucket::Bucket;
 
 // Writes the report up to a refusal, which is handed on.
-fn run<B: Bucket>(buckets: &mut [B], out: &mut String) -> Result<(), Stop>
-    requires { length buckets.old ≡ 4 }
+fn run<B: Bucket>(buckets: &mut [B; 4], out: &mut String) -> Result<(), Stop>
     ensures { Writes result (string_bytes out.old) (string_bytes out.new) report_text }
 {
     let mut envelope = draft_of_a()?.open();
@@ -28,8 +27,10 @@ fn run<B: Bucket>(buckets: &mut [B], out: &mut String) -> Result<(), Stop>
 }
 
 // Writes the report whole, upon four buckets of any kind.
-pub(crate) fn write_report<B: Bucket>(buckets: &mut [B], out: &mut String) -> Result<(), AllocError>
-    requires { length buckets.old ≡ 4 }
+pub(crate) fn write_report<B: Bucket>(
+    buckets: &mut [B; 4],
+    out: &mut String,
+) -> Result<(), AllocError>
     ensures { OnOk result (string_bytes out.new ≡ string_bytes out.old ++ report_text) }
 {
     match run(buckets, out) {
