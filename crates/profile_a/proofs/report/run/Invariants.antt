@@ -10,7 +10,7 @@ use Rattle.profile_a.proofs.report.run.Given as goal
 abbrev pub invariant-loop-i : goal.invariant-loop-i
 invariant-loop-i g l = record {
   draft : profile l.envelope.draft ≡ the_profile_a;
-  seen : sees g.B.Bucket.volume g.B.Bucket.count l.envelope.latest l.buckets ≡ seen_after l.i;
+  seen : sees g.B.Bucket.volume g.B.Bucket.count l.envelope.latest.micros l.buckets ≡ seen_after l.i;
   text : string_bytes l.out ≡ string_bytes l.initial.out ++ first_lines l.i;
 }
 
