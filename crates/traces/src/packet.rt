@@ -14,15 +14,9 @@ pub(crate) struct Packet {
 pub(crate) fn read_packet(line: &[u8]) -> Option<Packet>
     ensures { result ≡ packet_in line.now }
 {
-    let (front, back) = cut(line, b' ');
-    let (Some(tokens), Some(moment)) = (number(front), number(back)) else {
-        return None;
-    };
-    if tokens > u32::MAX as u64 {
-        return None;
-    }
+    let (tokens, moment) = cut(line, b' ');
     Some(Packet {
-        tokens: tokens as u32,
-        moment,
+        tokens: u32::try_from(number(tokens)?).ok()?,
+        moment: number(moment)?,
     })
 }
