@@ -30,10 +30,10 @@ impl Tally {
         ensures consistent { Consistent self.new }
     {
         self.packets += 1;
-        self.tokens += tokens as u128;
+        self.tokens += u128::from(tokens);
         if passes {
             self.passed += 1;
-            self.passed_tokens += tokens as u128;
+            self.passed_tokens += u128::from(tokens);
         }
     }
 }
