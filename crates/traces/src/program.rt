@@ -1,20 +1,23 @@
 // The program `conform`: reads, calls, writes. What it prints is the library's report.
 use crate::arguments::{Arguments, read_arguments};
 use crate::report::{Ending, complaint, conform};
-use anyhow::anyhow;
+use anyhow::{Context, anyhow, bail};
 use std::env;
 use std::io::{Read, Write};
 
 const USAGE: &str = "usage: conform RATE BURST [token|schedule|leaky]";
 
+// What an allocation that fails is told as.
+const OUT_OF_MEMORY: &str = "out of memory";
+
 fn arguments(rt: &HostRuntime) -> anyhow::Result<Arguments> {
     let words: Vec<String> = env::args(rt)?.skip(1).collect(rt.alloc())?;
-    let read = match words.as_slice() {
-        [rate, burst] => read_arguments(rate.as_str(), burst.as_str(), "token"),
-        [rate, burst, form] => read_arguments(rate.as_str(), burst.as_str(), form.as_str()),
-        _ => return Err(anyhow!(USAGE)),
+    let (rate, burst, form) = match words.as_slice() {
+        [rate, burst] => (rate.as_str(), burst.as_str(), "token"),
+        [rate, burst, form] => (rate.as_str(), burst.as_str(), form.as_str()),
+        _ => bail!(USAGE),
     };
-    match read {
+    match read_arguments(rate, burst, form) {
         Ok(arguments) => Ok(arguments),
         Err(misuse) => Err(anyhow!(misuse.text())),
     }
@@ -24,12 +27,12 @@ fn print_report(rt: &HostRuntime) -> anyhow::Result<()> {
     let settings = arguments(rt)?;
     let mut trace = Vec::new(rt.alloc());
     rt.stdin().read_to_end(&mut trace)?;
-    let report = conform(rt.alloc(), settings, trace.as_slice())?;
+    let report = conform(rt.alloc(), settings, trace.as_slice()).context(OUT_OF_MEMORY)?;
     rt.stdout().write_all(report.text.as_bytes())?;
-    match report.ending {
-        Ending::Complete | Ending::Fault => Ok(()),
-        Ending::NotTwoNumbers(line) => Err(anyhow!(complaint(rt.alloc(), line)?)),
+    if let Ending::NotTwoNumbers(line) = report.ending {
+        bail!(complaint(rt.alloc(), line).context(OUT_OF_MEMORY)?);
     }
+    Ok(())
 }
 
 /// Runs the program; what goes wrong is told on standard error, and then handed on.

@@ -1,5 +1,6 @@
 // The report on a trace.
 ghost use Rattle.std.specs.Prelude.{◌≡◌, ◌+◌, ◌^◌, ◌<◌, ◌≤◌, ◌++◌, IfOk, string_bytes, OnOk};
+ghost use Rattle.tokens.specs.Refusals.{number as number_of};
 ghost use Rattle.traces.specs.Bytes.{lines};
 ghost use Rattle.traces.specs.Reports.{Consistent, packet_line, fault_line, last_line, next_by, run, lined, after_text, reported, none_yet, report_of, complaint_text};
 ghost use Rattle.traces.specs.Totals.{ListsAnswersAndSums};
@@ -9,11 +10,10 @@ use crate::bytes::cut;
 use crate::packet::{Packet, read_packet};
 use crate::tally::Tally;
 use std::alloc::{AllocError, Global};
-use std::error::Error;
-use std::fmt;
 use std::fmt::Write;
 use tokens::leaky_bucket::LeakyBucket;
 use tokens::meter::Meter;
+use tokens::refusal::Refusal;
 use tokens::token_bucket::TokenBucket;
 use tokens::virtual_scheduling::VirtualScheduling;
 
@@ -32,53 +32,28 @@ pub struct Report {
     pub ending: Ending,
 }
 
-/// There was no memory for the text of the report.
-#[derive(Clone, Copy, Debug)]
-pub struct OutOfMemory;
-
-impl From<fmt::Error> for OutOfMemory {
-    fn from(_e: fmt::Error) -> OutOfMemory {
-        OutOfMemory
-    }
-}
-
-impl From<AllocError> for OutOfMemory {
-    fn from(_e: AllocError) -> OutOfMemory {
-        OutOfMemory
-    }
-}
-
-impl fmt::Display for OutOfMemory {
-    fn fmt<W: fmt::Write>(&self, f: &mut fmt::Formatter<W>) -> fmt::Result {
-        write!(f, "out of memory")
-    }
-}
-
-impl Error for OutOfMemory {}
-
 fn write_packet(
     out: &mut String,
     number: u64,
     packet: Packet,
     passes: bool,
-) -> Result<(), OutOfMemory>
+) -> Result<(), AllocError>
     ensures { OnOk result (string_bytes out.new ≡ string_bytes out.old ++ packet_line number packet passes) }
 {
     let tokens = packet.tokens;
     let moment = packet.moment;
     let verdict = if passes { "yes" } else { "no" };
-    writeln!(out, "{number} {tokens} {moment} {verdict}")?;
-    Ok(())
+    writeln!(out, "{number} {tokens} {moment} {verdict}")
 }
 
-fn write_fault(out: &mut String, number: u64, refusal: u8) -> Result<(), OutOfMemory>
-    ensures { OnOk result (string_bytes out.new ≡ string_bytes out.old ++ fault_line number refusal) }
+fn write_fault(out: &mut String, number: u64, refusal: Refusal) -> Result<(), AllocError>
+    ensures { OnOk result (string_bytes out.new ≡ string_bytes out.old ++ fault_line number (number_of refusal)) }
 {
-    writeln!(out, "fault {number} {refusal}")?;
-    Ok(())
+    let cause = refusal.number();
+    writeln!(out, "fault {number} {cause}")
 }
 
-fn write_last(out: &mut String, tally: &Tally) -> Result<(), OutOfMemory>
+fn write_last(out: &mut String, tally: &Tally) -> Result<(), AllocError>
     ensures { OnOk result (string_bytes out.new ≡ string_bytes out.old ++ last_line tally.now) }
 {
     let passed = tally.passed;
@@ -88,8 +63,7 @@ fn write_last(out: &mut String, tally: &Tally) -> Result<(), OutOfMemory>
     writeln!(
         out,
         "passed {passed} of {packets} packets, {passed_tokens} of {tokens} tokens"
-    )?;
-    Ok(())
+    )
 }
 
 // Charges the packet of one line; answers how the run ends there, if it does.
@@ -98,7 +72,7 @@ fn charge_line<M: Meter>(
     tally: &mut Tally,
     line: &[u8],
     out: &mut String,
-) -> Result<Option<Ending>, OutOfMemory>
+) -> Result<Option<Ending>, AllocError>
     requires consistent { Consistent tally.old }
     requires room { tally.old.packets + 1 < 2 ^ 64 }
     ensures text { OnOk result (string_bytes out.new ≡ string_bytes out.old ++ (lined (run (M.Meter.meaning meter.old) tally.old) line.now).text) }
@@ -117,7 +91,7 @@ fn charge_line<M: Meter>(
             Ok(None)
         }
         Err(refusal) => {
-            write_fault(out, number, refusal.number())?;
+            write_fault(out, number, refusal)?;
             Ok(Some(Ending::Fault))
         }
     }
@@ -128,7 +102,7 @@ fn charge_lines<M: Meter>(
     mut meter: M,
     trace: &[u8],
     out: &mut String,
-) -> Result<Ending, OutOfMemory>
+) -> Result<Ending, AllocError>
     ensures { IfOk result (λ e. record { text = string_bytes out.new; ending = e } ≡ after_text (string_bytes out.old) (reported (run (M.Meter.meaning meter) none_yet) (lines trace.now))) }
 {
     let mut tally = Tally::new();
@@ -150,14 +124,14 @@ fn charge_trace<M: Meter>(
     rate: u64,
     burst: u64,
     trace: &[u8],
-) -> Result<Report, OutOfMemory>
+) -> Result<Report, AllocError>
     ensures { IfOk result (λ o. record { text = string_bytes o.text; ending = o.ending } ≡ report_of rate burst trace.now) }
 {
     let mut text = String::new(heap);
     let ending = match M::new(rate, burst) {
         Ok(meter) => charge_lines(meter, trace, &mut text)?,
         Err(refusal) => {
-            write_fault(&mut text, 0, refusal.number())?;
+            write_fault(&mut text, 0, refusal)?;
             Ending::Fault
         }
     };
@@ -166,7 +140,7 @@ fn charge_trace<M: Meter>(
 
 /// Charges the packets of a trace to a new meter, each at its moment, and says which of them pass. The report does
 /// not depend on the form.
-pub fn conform(heap: Global, settings: Arguments, trace: &[u8]) -> Result<Report, OutOfMemory>
+pub fn conform(heap: Global, settings: Arguments, trace: &[u8]) -> Result<Report, AllocError>
     ensures value { IfOk result (λ o. record { text = string_bytes o.text; ending = o.ending } ≡ report_of settings.rate settings.burst trace.now) }
     ensures law { ListsAnswersAndSums }
 {
@@ -179,13 +153,10 @@ pub fn conform(heap: Global, settings: Arguments, trace: &[u8]) -> Result<Report
 }
 
 /// What the user is told of a line that is no packet.
-pub fn complaint(heap: Global, line: u64) -> Result<String, OutOfMemory>
+pub fn complaint(heap: Global, line: u64) -> Result<String, AllocError>
     ensures { IfOk result (λ t. string_bytes t ≡ complaint_text line) }
 {
-    let mut text = String::new(heap);
-    write!(
-        text,
+    format!(in heap;
         "line {line} is not two numbers, TOKENS up to 4294967295 and MOMENT, with one space between"
-    )?;
-    Ok(text)
+    )
 }
