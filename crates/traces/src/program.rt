@@ -1,7 +1,7 @@
 // The program `conform`: reads, calls, writes. What it prints is the library's report.
 use crate::arguments::{Arguments, read_arguments};
 use crate::report::{Ending, complaint, conform};
-use anyhow::{Context, anyhow, bail};
+use anyhow::{Context, bail};
 use std::env;
 use std::io::{Read, Write};
 
@@ -17,10 +17,7 @@ fn arguments(rt: &HostRuntime) -> anyhow::Result<Arguments> {
         [rate, burst, form] => (rate.as_str(), burst.as_str(), form.as_str()),
         _ => bail!(USAGE),
     };
-    match read_arguments(rate, burst, form) {
-        Ok(arguments) => Ok(arguments),
-        Err(misuse) => Err(anyhow!(misuse.text())),
-    }
+    Ok(read_arguments(rate, burst, form)?)
 }
 
 fn print_report(rt: &HostRuntime) -> anyhow::Result<()> {

@@ -40,8 +40,7 @@ fn write_packet(
 ) -> Result<(), AllocError>
     ensures { OnOk result (string_bytes out.new ≡ string_bytes out.old ++ packet_line number packet passes) }
 {
-    let tokens = packet.tokens;
-    let moment = packet.moment;
+    let Packet { tokens, moment } = packet;
     let verdict = if passes { "yes" } else { "no" };
     writeln!(out, "{number} {tokens} {moment} {verdict}")
 }
@@ -56,10 +55,12 @@ fn write_fault(out: &mut String, number: u64, refusal: Refusal) -> Result<(), Al
 fn write_last(out: &mut String, tally: &Tally) -> Result<(), AllocError>
     ensures { OnOk result (string_bytes out.new ≡ string_bytes out.old ++ last_line tally.now) }
 {
-    let passed = tally.passed;
-    let packets = tally.packets;
-    let passed_tokens = tally.passed_tokens;
-    let tokens = tally.tokens;
+    let Tally {
+        packets,
+        passed,
+        tokens,
+        passed_tokens,
+    } = *tally;
     writeln!(
         out,
         "passed {passed} of {packets} packets, {passed_tokens} of {tokens} tokens"
