@@ -1,16 +1,29 @@
--- What a loop over bytes has come to. Assumes nothing.
-use Rattle.std.proofs.Common.{◌≡◌, ℕ, ◌+◌, ◌-◌, ◌*◌, ◌<◌, ◌≤◌, true, false, cond, eqb, List, [], ◌∷◌, ◌++◌, length, get_or, take, drop, Some, None, sym, refl, ap, ◌∙◌, append_assoc, append-nil, add-one, arith, drop-cons}
-use Rattle.std.proofs.lemmas.List.{take_more, take_rest, take_all, drop_all}
-use Rattle.std.proofs.lemmas.Bool.Decides.{nat_tests}
-use Rattle.std.specs.Option.{option_map}
-use Rattle.traces.specs.Bytes.{before, beyond, lines, onto_first, digits_after, is_digit, written, capped}
+-- The number that a fold over bytes has read. Assumes nothing.
+use Rattle.std.proofs.Common.{◌≡◌, ℕ, ◌+◌, ◌-◌, ◌*◌, ◌<◌, true, false, cond, Bool, List, [], ◌∷◌, length, Some, None, Option, Bor, refl, sym, ap, subst, ◌∙◌, arith}
+use Rattle.std.proofs.iter.Yields.{fronts}
+use Rattle.std.proofs.lemmas.List.{nil_from_length}
+use Rattle.std.specs.ControlFlow.{continue_value}
+use Rattle.std.specs.Fn.{Called}
+use Rattle.std.specs.Iterator.{Yields, TryFoldTurn}
+use Rattle.std.specs.List.{FoldsTo}
+use Rattle.std.specs.Option.{MatchOption, option_map}
+use Rattle.std.specs.declared.ops.ControlFlow.{ControlFlow}
+use Rattle.std.specs.declared.ops.ControlFlow.TheVariants.{Continue, Break}
+use Rattle.std.specs.declared.slice.Iter.{Iter}
+use Rattle.traces.specs.Bytes.{capped, digits_after, is_digit, written}
+use denote.Param.Members.{Mut}
 
--- the list from `i` on begins with what stands at `i`
-pub drop_at : (xs : List ℕ) (i : ℕ) → i < length xs → drop i xs ≡ get_or xs i 0 ∷ drop (i + 1) xs
-drop_at xs i h = rw (add-one, drop-cons xs i 0)
+-- a text that is not empty writes what its digits write
+pub written_some : (text : List ℕ) → 0 < length text → written text ≡ digits_after 0 text
+written_some [] h = absurd (omega arith)
+written_some (c ∷ cs) h = refl
+
+-- the number that digits write after those of `n`, in 64 bits
+abbrev pub number_after : ℕ → List ℕ → Option ℕ
+number_after n cs = option_map capped (digits_after n cs)
 
 -- numbers that are capped alike stay so, whatever digits follow
-pub capped_alike : (cs : List ℕ) (a b : ℕ) → capped a ≡ capped b → option_map capped (digits_after a cs) ≡ option_map capped (digits_after b cs)
+capped_alike : (cs : List ℕ) (a b : ℕ) → capped a ≡ capped b → number_after a cs ≡ number_after b cs
 capped_alike [] a b same = ap Some same
 capped_alike (c ∷ cs) a b same =
     elim (is_digit c) as (λ d. option_map capped (cond d (digits_after (10 * a + (c - 48)) cs) None) ≡ option_map capped (cond d (digits_after (10 * b + (c - 48)) cs) None)) [
@@ -18,66 +31,53 @@ capped_alike (c ∷ cs) a b same =
       | false ↦ refl
     ]
 
--- no separator stands among the first `i` bytes, so they belong to the front
-pub record Passed (separator : ℕ) (text : List ℕ) (i : ℕ) : Type 0 where
-  pub front : before separator text ≡ take i text ++ before separator (drop i text)
-  pub back : beyond separator text ≡ beyond separator (drop i text)
+-- the number that one byte more makes
+abbrev pub onto : ℕ → ℕ → Option ℕ
+onto n c = cond (is_digit c) (Some (capped (10 * n + (c - 48)))) None
 
-module _ (separator : ℕ) (text : List ℕ) (i : ℕ) (within : i < length text) where
-  at_separator : get_or text i 0 ≡ separator → (before separator (drop i text) ≡ []) × (beyond separator (drop i text) ≡ drop (i + 1) text)
-  at_separator here = rw (drop_at text i within, here) (grind (arith, nat_tests))
+one_more : (d : Bool) (k m : ℕ) (cs : List ℕ) → cond d (Some (capped k)) None ≡ Some m → (capped m ≡ m) × (option_map capped (cond d (digits_after k cs) None) ≡ number_after m cs)
+one_more true k m cs here = let same : capped k ≡ m = cc in (omega arith, capped_alike cs k m (omega arith))
+one_more false k m cs here = let z : ◌≡◌ {A = ℕ} 0 1 = cc in absurd (omega arith)
 
-  past_another : (get_or text i 0 ≡ separator → ⊥) → (before separator (drop i text) ≡ get_or text i 0 ∷ before separator (drop (i + 1) text)) × (beyond separator (drop i text) ≡ beyond separator (drop (i + 1) text))
-  past_another other = rw (drop_at text i within) (grind (arith, nat_tests))
+no_more : (d : Bool) (k : ℕ) (cs : List ℕ) → cond d (Some (capped k)) None ≡ None → None ≡ option_map capped (cond d (digits_after k cs) None)
+no_more true k cs here = let z : ◌≡◌ {A = ℕ} 0 1 = cc in absurd (omega arith)
+no_more false k cs here = refl
 
-  pub passed_more : Passed separator text i → (get_or text i 0 ≡ separator → ⊥) → Passed separator text (i + 1)
-  passed_more p other =
-      let step = past_another other in
+-- a fold each call of which makes that number: `E` is what stops it
+module _ {F : Type 0} (E : Type 0) (g : Mut F (ℕ × (Bor ℕ × Unit {0})) (Option ℕ)) (f : F) (calls : (n : ℕ) (x : Bor ℕ) (v : Option ℕ) (f' : F) → Called g f (n, (x, tt)) v f' → (f' ≡ f) × (v ≡ onto n x.now)) where
+  abbrev Goes : Option ℕ → ControlFlow E ℕ → Type 0
+  Goes v next = v ≡ continue_value next
+
+  abbrev Turn : F × ℕ → Bor ℕ → F × ℕ → Type 0
+  Turn = TryFoldTurn g Goes
+
+  -- the calls so far took `n` to `a`
+  record Along (n a : ℕ) (f' : F) (s t : Iter ℕ) : Type 0 where
+    same : f' ≡ f
+    fits : capped a ≡ a
+    reads : number_after n s.rest.now ≡ number_after a t.rest.now
+
+  along : (xs : List (Bor ℕ)) (n a : ℕ) (f' : F) (s t : Iter ℕ) → capped n ≡ n → Yields fronts s xs t → FoldsTo {P = F × ℕ} Turn (f, n) xs (f', a) → Along n a f' s t
+  along [] n a f' s t fits yields folds =
+      let same : n ≡ a = ap (λ p. p.1) folds in
       record {
-        front = p.front ∙ ap (λ xs. take i text ++ xs) step.0 ∙ sym (append_assoc (take i text) (get_or text i 0 ∷ []) _) ∙ ap (λ xs. xs ++ before separator (drop (i + 1) text)) (sym (take_more text i 0 within));
-        back = p.back ∙ step.1;
+        same = sym (ap (λ p. p.0) folds);
+        fits = rw same at fits;
+        reads = ap (λ i. number_after i s.rest.now) same ∙ ap (λ i. number_after a i.rest.now) yields;
       }
+  along (x ∷ xs) n a f' s t fits yields folds =
+      let j = yields.0 in
+      let m = folds.0.1 in
+      let made = calls n x folds.1.0 folds.0.0 folds.1.1 in
+      let more = one_more (is_digit x.now) _ m j.rest.now (sym made.1 ∙ folds.1.2) in
+      let rest = along xs m a f' j t more.0 yields.2 (subst (λ h. FoldsTo {P = F × ℕ} Turn (h, m) xs (f', a)) made.0 folds.2) in
+      record { same = rest.same; fits = rest.fits; reads = ap (number_after n) yields.1 ∙ more.1 ∙ rest.reads }
 
-  pub front_here : Passed separator text i → get_or text i 0 ≡ separator → take i text ≡ before separator text
-  front_here p here = sym (p.front ∙ ap (λ xs. take i text ++ xs) (at_separator here).0 ∙ append-nil (take i text))
-
-  pub back_here : Passed separator text i → get_or text i 0 ≡ separator → take (length text - (i + 1)) (drop (i + 1) text) ≡ beyond separator text
-  back_here p here = take_rest text (i + 1) ∙ sym (p.back ∙ (at_separator here).1)
-
-pub all_front : (separator : ℕ) (text : List ℕ) (i : ℕ) → length text ≤ i → Passed separator text i → text ≡ before separator text
-all_front separator text i over p =
-    sym (p.front ∙ ap (λ xs. take i text ++ before separator xs) (drop_all i text over) ∙ append-nil (take i text) ∙ take_all i text over)
-
-pub none_back : (separator : ℕ) (text : List ℕ) (i : ℕ) → length text ≤ i → Passed separator text i → [] ≡ beyond separator text
-none_back separator text i over p = sym (p.back ∙ ap (beyond separator) (drop_all i text over))
-
--- a text that is not empty writes what its digits write
-pub written_some : (text : List ℕ) → 0 < length text → written text ≡ digits_after 0 text
-written_some [] h = absurd (omega arith)
-written_some (c ∷ cs) h = refl
-
--- one byte more of a number
-module _ (text : List ℕ) (n i : ℕ) (within : i < length text) where
-  pub digit_more : is_digit (get_or text i 0) ≡ true → digits_after n (drop i text) ≡ digits_after (10 * n + (get_or text i 0 - 48)) (drop (i + 1) text)
-  digit_more digit = rw (drop_at text i within) (rw digit)
-
-  pub digit_lacks : is_digit (get_or text i 0) ≡ false → digits_after n (drop i text) ≡ None
-  digit_lacks other = rw (drop_at text i within) (rw other)
-
--- the first line of a text that is not empty, and the lines after it
-pub lines_cut : (text : List ℕ) → 0 < length text → lines text ≡ before 10 text ∷ lines (beyond 10 text)
-lines_cut [] some = absurd (omega arith)
-lines_cut (c ∷ []) some = elim (eqb c 10) as (λ e. cond e ([] ∷ []) ((c ∷ []) ∷ []) ≡ cond e [] (c ∷ []) ∷ lines (cond e [] [])) [ true ↦ refl | false ↦ refl ]
-lines_cut (c ∷ d ∷ cs) some =
-    let rest = lines_cut (d ∷ cs) (omega arith) in
-    elim (eqb c 10) as (λ e. cond e ([] ∷ lines (d ∷ cs)) (onto_first c (lines (d ∷ cs))) ≡ cond e [] (c ∷ before 10 (d ∷ cs)) ∷ lines (cond e (d ∷ cs) (beyond 10 (d ∷ cs)))) [
-      | true ↦ refl
-      | false ↦ ap (onto_first c) rest
-    ]
-
-pub beyond_shorter : (separator : ℕ) (text : List ℕ) → 0 < length text → length (beyond separator text) < length text
-beyond_shorter separator [] some = absurd (omega arith)
-beyond_shorter separator (c ∷ []) some = elim (eqb c separator) as (λ e. length (cond {A = List ℕ} e [] []) < length (c ∷ [])) [ true ↦ omega arith | false ↦ omega arith ]
-beyond_shorter separator (c ∷ d ∷ cs) some =
-    let rest = beyond_shorter separator (d ∷ cs) (omega arith) in
-    elim (eqb c separator) as (λ e. length (cond e (d ∷ cs) (beyond separator (d ∷ cs))) < length (c ∷ d ∷ cs)) [ true ↦ omega arith | false ↦ omega arith ]
+  pub folded : (n : ℕ) (s u : Iter ℕ) (r : Option ℕ) (xs : List (Bor ℕ)) (o : Option (Bor ℕ)) (f' : F) (a : ℕ) (t : Iter ℕ) → capped n ≡ n → Yields fronts s xs t → fronts t o u → FoldsTo {P = F × ℕ} Turn (f, n) xs (f', a) → MatchOption o (Goes r (Continue a)) (λ x. (v : Option ℕ) × (h : F) × (e : E) × Called g f' (a, (x, tt)) v h × Goes v (Break e) × (r ≡ None)) → r ≡ number_after n s.rest.now
+  folded n s u r xs None f' a t fits yields stop folds end =
+      let all = along xs n a f' s t fits yields folds in
+      end ∙ sym (all.reads ∙ ap (number_after a) (nil_from_length t.rest.now stop.0) ∙ ap Some all.fits)
+  folded n s u r xs (Some x) f' a t fits yields stop folds end =
+      let so_far = along xs n a f' s t fits yields folds in
+      let made = calls a x end.0 end.1 (subst (λ h. Called g h (a, (x, tt)) end.0 end.1) so_far.same end.3) in
+      end.5 ∙ no_more (is_digit x.now) _ u.rest.now (sym made.1 ∙ end.4) ∙ sym (so_far.reads ∙ ap (number_after a) stop)

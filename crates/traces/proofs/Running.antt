@@ -5,7 +5,7 @@ use Rattle.traces.specs.Bytes.{before, beyond, lines}
 use Rattle.traces.specs.Reports.{Lined, Outcome, Run, after_text, continued, last_line, lined, next_by, reported}
 use Rattle.traces.specs.declared.report.Ending.{Ending}
 use Rattle.traces.specs.declared.report.Ending.TheVariants.{Complete}
-use Rattle.traces.proofs.Reading.{lines_cut}
+use Rattle.traces.proofs.Cutting.{lines_cut}
 
 -- the report on a text that is cut into its first line and the rest
 module _ (out : List ℕ) (r : Run) (text line rest : List ℕ) (some : 0 < length text) (front : line ≡ before 10 text) (back : rest ≡ beyond 10 text) where

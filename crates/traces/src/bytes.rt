@@ -7,12 +7,10 @@ pub(crate) fn cut(text: &[u8], separator: u8) -> (&[u8], &[u8])
     ensures front { result.0.now ≡ before separator text.now }
     ensures back { result.1.now ≡ beyond separator text.now }
 {
-    for (i, byte) in text.iter().enumerate() {
-        if *byte == separator {
-            return (&text[0..i], &text[i + 1..]);
-        }
+    match text.iter().position(|byte| *byte == separator) {
+        Some(i) => (&text[..i], &text[i + 1..]),
+        None => (text, &[]),
     }
-    (text, &text[text.len()..])
 }
 
 // The number that decimal digits write; one that 64 bits do not hold is read as the largest that they do.
@@ -22,12 +20,8 @@ pub(crate) fn number(text: &[u8]) -> Option<u64>
     if text.is_empty() {
         return None;
     }
-    let mut n: u64 = 0;
-    for byte in text {
-        if *byte < b'0' || *byte > b'9' {
-            return None;
-        }
-        n = n.saturating_mul(10).saturating_add(u64::from(*byte - b'0'));
-    }
-    Some(n)
+    text.iter().try_fold(0u64, |n, byte| {
+        let digit = char::from(*byte).to_digit(10)?;
+        Some(n.saturating_mul(10).saturating_add(u64::from(digit)))
+    })
 }

@@ -1,26 +1,20 @@
-use Rattle.std.proofs.Common.{length, ◌∙◌, le_refl}
-use native.Mathlib.Nat.{sub-zero}
-use Rattle.std.proofs.lemmas.List.{take_rest, drop_all}
-use Rattle.traces.proofs.Reading.{passed_more, front_here, back_here, all_front, none_back}
+use Rattle.std.proofs.Common.{◌+◌, eqb, rules, tests, sym, ◌∙◌}
+use Rattle.std.proofs.lemmas.Iterator.{YieldsList-from_slice}
+use Rattle.std.proofs.lemmas.Iterator.Search.{position_from_yields_List}
+use Rattle.std.proofs.lemmas.List.{take_rest}
+use Rattle.traces.proofs.Cutting.{front_at, back_at, front_none, back_none}
 use Rattle.traces.proofs.bytes.cut.Goals as goal
 
-pub returns-then-byte-separator : goal.returns-then-byte-separator
-returns-then-byte-separator c =
-    let within = c.loop-i-test.true in
-    let here = c.if-byte-separator.true in
-    record {
-      front = rw sub-zero (front_here _ _ _ within c.loop-i.invariant here);
-      back = back_here _ _ _ within c.loop-i.invariant here;
-    }
-
-pub loop-i-preserved : goal.loop-i-preserved
-loop-i-preserved c = passed_more _ _ _ c.loop-i-test.true c.loop-i.invariant c.if-byte-separator.false
-
-pub returns : goal.returns
-returns c =
+pub returns-in-Some : goal.returns-in-Some
+returns-in-Some c =
     let text = c.args.text.now in
-    let over = c.loop-i-test.false in
-    record {
-      front = all_front _ _ _ over c.loop-i.invariant;
-      back = take_rest text (length text) ∙ drop_all (length text) text (le_refl (length text)) ∙ none_back _ _ _ over c.loop-i.invariant;
-    }
+    let found = position_from_yields_List (λ b. eqb b c.args.separator) _ _ _ c.position.ensures.ran (YieldsList-from_slice text cc) (λ x b q k. search (rules, tests)) in
+    let here = sym c.in-Some.is ∙ found in
+    record { front = front_at c.args.separator text _ here; back = take_rest text (c.in-Some.i + 1) ∙ back_at c.args.separator text _ here }
+
+pub returns-in-None : goal.returns-in-None
+returns-in-None c =
+    let text = c.args.text.now in
+    let found = position_from_yields_List (λ b. eqb b c.args.separator) _ _ _ c.position.ensures.ran (YieldsList-from_slice text cc) (λ x b q k. search (rules, tests)) in
+    let none = sym c.in-None.is ∙ found in
+    record { front = front_none c.args.separator text none; back = back_none c.args.separator text none }

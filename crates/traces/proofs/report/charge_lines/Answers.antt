@@ -1,7 +1,7 @@
 use Rattle.std.proofs.Common.{◌≡◌, ◌<◌, length, sym, ap, ◌∙◌, arith}
 use Rattle.std.proofs.lemmas.Bool.Decides.{nat_tests}
 use Rattle.traces.specs.declared.report.Ending.TheVariants.{Complete}
-use Rattle.traces.proofs.Reading.{beyond_shorter}
+use Rattle.traces.proofs.Cutting.{beyond_shorter}
 use Rattle.traces.proofs.Running.{line_more, line_ends, lines_end}
 use Rattle.traces.proofs.report.charge_lines.Goals as goal
 
