@@ -1,5 +1,5 @@
 -- Where a text is cut, and its lines. Assumes nothing.
-use Rattle.std.proofs.Common.{◌≡◌, ℕ, ◌+◌, ◌<◌, ◌≤◌, true, false, not, cond, eqb, ltb, List, [], ◌∷◌, length, take, drop, Some, None, Option, sym, refl, ap, ◌∙◌, add-one, one-add, arith}
+use Rattle.std.proofs.Common.{◌≡◌, ℕ, ◌+◌, ◌<◌, ◌≤◌, true, false, not, cond, eqb, ltb, List, [], ◌∷◌, suc, length, take, drop, Some, None, Option, sym, refl, ap, ◌∙◌, add-one, one-add, arith}
 use Rattle.std.proofs.lemmas.List.{take_all, drop_all}
 use Rattle.std.proofs.lemmas.Bool.Decides.{nat_tests}
 use Rattle.std.specs.List.{before_first, after_first, position_or_len}
@@ -51,7 +51,7 @@ module _ (separator : ℕ) (text : List ℕ) where
   back_none none = sym (beyond-first separator text ∙ drop_all (place + 1) text (omega (arith, past_end none)))
 
 -- the first line of a text that is not empty, and the lines after it
-pub lines_cut : (text : List ℕ) → 0 < length text → lines text ≡ before 10 text ∷ lines (beyond 10 text)
+lines_cut : (text : List ℕ) → 0 < length text → lines text ≡ before 10 text ∷ lines (beyond 10 text)
 lines_cut [] some = absurd (omega arith)
 lines_cut (c ∷ []) some = elim (eqb c 10) as (λ e. cond e ([] ∷ []) ((c ∷ []) ∷ []) ≡ cond e [] (c ∷ []) ∷ lines (cond e [] [])) [ true ↦ refl | false ↦ refl ]
 lines_cut (c ∷ d ∷ cs) some =
@@ -61,9 +61,17 @@ lines_cut (c ∷ d ∷ cs) some =
       | false ↦ ap (onto_first c) rest
     ]
 
-pub beyond_shorter : (separator : ℕ) (text : List ℕ) → 0 < length text → length (beyond separator text) < length text
-beyond_shorter separator [] some = absurd (omega arith)
-beyond_shorter separator (c ∷ []) some = elim (eqb c separator) as (λ e. length (cond {A = List ℕ} e [] []) < length (c ∷ [])) [ true ↦ omega arith | false ↦ omega arith ]
-beyond_shorter separator (c ∷ d ∷ cs) some =
-    let rest = beyond_shorter separator (d ∷ cs) (omega arith) in
-    elim (eqb c separator) as (λ e. length (cond e (d ∷ cs) (beyond separator (d ∷ cs))) < length (c ∷ d ∷ cs)) [ true ↦ omega arith | false ↦ omega arith ]
+pub lines_first : (text line rest : List ℕ) → 0 < length text → line ≡ before 10 text → rest ≡ beyond 10 text → lines text ≡ line ∷ lines rest
+lines_first text line rest some front back =
+    lines_cut text some ∙ ap (λ l. l ∷ lines (beyond 10 text)) (sym front) ∙ ap (λ b. line ∷ lines b) (sym back)
+
+-- a text has no more lines than bytes
+onto_first_at_most : (c : ℕ) (ls : List (List ℕ)) → length (onto_first c ls) ≤ suc (length ls)
+onto_first_at_most c [] = omega arith
+onto_first_at_most c (l ∷ ls) = omega arith
+
+pub lines_at_most : (text : List ℕ) → length (lines text) ≤ length text
+lines_at_most [] = omega arith
+lines_at_most (c ∷ cs) =
+    let fewer = lines_at_most cs in
+    elim (eqb c 10) as (λ e. length (cond e ([] ∷ lines cs) (onto_first c (lines cs))) ≤ suc (length cs)) [ true ↦ omega arith | false ↦ omega (arith, onto_first_at_most c (lines cs)) ]

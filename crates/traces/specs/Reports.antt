@@ -1,5 +1,5 @@
 -- What a trace comes to against a meter: the text of the report, and how the run ends. Assumes nothing.
-use Rattle.std.specs.Prelude.{ℕ, ◌+◌, ◌*◌, ◌≤◌, Bool, cond, List, [], ◌∷◌, ◌++◌, Some, None, codes, decimal, Option}
+use Rattle.std.specs.Prelude.{ℕ, ◌+◌, Bool, cond, List, [], ◌∷◌, ◌++◌, Some, None, codes, decimal, Option}
 use Rattle.tokens.specs.Meters.{Metered, new_told, packet_told, charged}
 use Rattle.tokens.specs.Refusals.{Told, answered, refused}
 use Rattle.traces.specs.Bytes.{lines}
@@ -24,12 +24,6 @@ counted t tokens passes =
       tokens = t.tokens + tokens;
       passed_tokens = t.passed_tokens + only passes tokens;
     }
-
--- what holds of every tally: no more passed than there was, and 32 bits hold the tokens of each packet
-pub record Consistent (t : Tally) : Type 0 where
-  pub packets : t.passed ≤ t.packets
-  pub tokens : t.tokens ≤ 4_294_967_295 * t.packets
-  pub passed_tokens : t.passed_tokens ≤ t.tokens
 
 -- the three kinds of line that a report has; byte 10 ends a line
 abbrev pub packet_line : ℕ → Packet → Bool → List ℕ

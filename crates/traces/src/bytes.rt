@@ -1,6 +1,7 @@
-// Bytes as fields and numbers.
+// Bytes as lines, fields and numbers.
 ghost use Rattle.std.specs.Prelude.{◌≡◌};
-ghost use Rattle.traces.specs.Bytes.{before, beyond, number_in};
+ghost use Rattle.std.specs.Iterator.{YieldsFirstRef, item_count};
+ghost use Rattle.traces.specs.Bytes.{before, beyond, lines, number_in};
 
 // What stands before the first separator, and what stands beyond it.
 pub(crate) fn cut(text: &[u8], separator: u8) -> (&[u8], &[u8])
@@ -10,6 +11,27 @@ pub(crate) fn cut(text: &[u8], separator: u8) -> (&[u8], &[u8])
     match text.iter().position(|byte| *byte == separator) {
         Some(i) => (&text[..i], &text[i + 1..]),
         None => (text, &[]),
+    }
+}
+
+// The lines of a text that are left, each without its newline.
+#[derive(Drop)]
+pub(crate) struct Lines<'a>(pub(crate) &'a [u8]);
+
+impl<'a> Iterator for Lines<'a> {
+    type Item = &'a [u8];
+
+    ghost next_gives = { YieldsFirstRef (λ left. lines left.0.now) };
+
+    ghost remaining = { item_count (λ left. lines left.0.now) };
+
+    fn next(&mut self) -> Option<&'a [u8]> {
+        if self.0.is_empty() {
+            return None;
+        }
+        let (line, rest) = cut(self.0, b'\n');
+        self.0 = rest;
+        Some(line)
     }
 }
 

@@ -2,15 +2,16 @@
 ghost use Rattle.std.specs.Prelude.{◌≡◌, ◌+◌, ◌^◌, ◌<◌, ◌≤◌, ◌++◌, IfOk, string_bytes, OnOk};
 ghost use Rattle.tokens.specs.Refusals.{number as number_of};
 ghost use Rattle.traces.specs.Bytes.{lines};
-ghost use Rattle.traces.specs.Reports.{Consistent, packet_line, fault_line, last_line, next_by, run, lined, after_text, reported, none_yet, report_of, complaint_text};
+ghost use Rattle.traces.specs.Reports.{packet_line, fault_line, last_line, next_by, run, lined, after_text, reported, none_yet, report_of, complaint_text};
 ghost use Rattle.traces.specs.Totals.{ListsAnswersAndSums};
 
 use crate::arguments::{Arguments, Form};
-use crate::bytes::cut;
+use crate::bytes::Lines;
 use crate::packet::{Packet, read_packet};
 use crate::tally::Tally;
 use std::alloc::{AllocError, Global};
 use std::fmt::Write;
+use std::marker::Model;
 use tokens::leaky_bucket::LeakyBucket;
 use tokens::meter::Meter;
 use tokens::refusal::Refusal;
@@ -55,67 +56,71 @@ fn write_fault(out: &mut String, number: u64, refusal: Refusal) -> Result<(), Al
 fn write_last(out: &mut String, tally: &Tally) -> Result<(), AllocError>
     ensures { OnOk result (string_bytes out.new ≡ string_bytes out.old ++ last_line tally.now) }
 {
-    let Tally {
-        packets,
-        passed,
-        tokens,
-        passed_tokens,
-    } = *tally;
+    let packets = tally.packets;
+    let passed = tally.passed;
+    let tokens = tally.tokens;
+    let passed_tokens = tally.passed_tokens;
     writeln!(
         out,
         "passed {passed} of {packets} packets, {passed_tokens} of {tokens} tokens"
     )
 }
 
-// Charges the packet of one line; answers how the run ends there, if it does.
-fn charge_line<M: Meter>(
-    meter: &mut M,
-    tally: &mut Tally,
-    line: &[u8],
-    out: &mut String,
-) -> Result<Option<Ending>, AllocError>
-    requires consistent { Consistent tally.old }
-    requires room { tally.old.packets + 1 < 2 ^ 64 }
-    ensures text { OnOk result (string_bytes out.new ≡ string_bytes out.old ++ (lined (run (M.Meter.meaning meter.old) tally.old) line.now).text) }
-    ensures next { IfOk result (λ e. next_by e (run (M.Meter.meaning meter.new) tally.new) ≡ (lined (run (M.Meter.meaning meter.old) tally.old) line.now).next) }
-    ensures consistent { Consistent tally.new }
-    ensures bound { tally.new.packets ≤ tally.old.packets + 1 }
-{
-    let number = tally.packets + 1;
-    let Some(packet) = read_packet(line) else {
-        return Ok(Some(Ending::NotTwoNumbers(number)));
-    };
-    match meter.charge(packet.tokens, packet.moment) {
-        Ok(passes) => {
-            tally.count(packet.tokens, passes);
-            write_packet(out, number, packet, passes)?;
-            Ok(None)
-        }
-        Err(refusal) => {
-            write_fault(out, number, refusal)?;
-            Ok(Some(Ending::Fault))
+// A run so far: the meter, and the tally of what it was charged.
+#[derive(Drop)]
+struct Run<M: Meter> {
+    meter: M,
+    tally: Tally,
+}
+
+impl<M: Meter> Model for Run<M> {
+    ghost use Rattle.traces.specs.Reports.{Run, run};
+
+    ghost Value = { Run };
+
+    ghost view = { λ r. run (M.meaning r.meter) r.tally };
+}
+
+impl<M: Meter> Run<M> {
+    // Charges the packet of one line; answers how the run ends there, if it does.
+    fn charge_line(&mut self, line: &[u8], out: &mut String) -> Result<Option<Ending>, AllocError>
+        requires { self.old.tally.packets + 1 < 2 ^ 64 }
+        ensures text { OnOk result (string_bytes out.new ≡ string_bytes out.old ++ (lined self.old line.now).text) }
+        ensures next { IfOk result (λ e. next_by e self.new ≡ (lined self.old line.now).next) }
+        ensures bound { self.new.tally.packets ≤ self.old.tally.packets + 1 }
+    {
+        let number = self.tally.packets + 1;
+        let Some(packet) = read_packet(line) else {
+            return Ok(Some(Ending::NotTwoNumbers(number)));
+        };
+        match self.meter.charge(packet.tokens, packet.moment) {
+            Ok(passes) => {
+                self.tally.count(packet.tokens, passes);
+                write_packet(out, number, packet, passes)?;
+                Ok(None)
+            }
+            Err(refusal) => {
+                write_fault(out, number, refusal)?;
+                Ok(Some(Ending::Fault))
+            }
         }
     }
 }
 
 // Charges line after line, and closes a complete run with its last line.
-fn charge_lines<M: Meter>(
-    mut meter: M,
-    trace: &[u8],
-    out: &mut String,
-) -> Result<Ending, AllocError>
+fn charge_lines<M: Meter>(meter: M, trace: &[u8], out: &mut String) -> Result<Ending, AllocError>
     ensures { IfOk result (λ e. record { text = string_bytes out.new; ending = e } ≡ after_text (string_bytes out.old) (reported (run (M.Meter.meaning meter) none_yet) (lines trace.now))) }
 {
-    let mut tally = Tally::new();
-    let mut rest = trace;
-    while !rest.is_empty() {
-        let (line, more) = cut(rest, b'\n');
-        if let Some(ending) = charge_line(&mut meter, &mut tally, line, out)? {
+    let mut run = Run {
+        meter,
+        tally: Tally::default(),
+    };
+    for line in Lines(trace) {
+        if let Some(ending) = run.charge_line(line, out)? {
             return Ok(ending);
         }
-        rest = more;
     }
-    write_last(out, &tally)?;
+    write_last(out, &run.tally)?;
     Ok(Ending::Complete)
 }
 

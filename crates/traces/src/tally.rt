@@ -1,8 +1,10 @@
 // How many packets and tokens a trace has had, and how many of them passed.
 ghost use Rattle.std.specs.Prelude.{◌≡◌, ◌+◌, ◌^◌, ◌<◌};
-ghost use Rattle.traces.specs.Reports.{Consistent, none_yet, counted};
+ghost use Rattle.traces.specs.Reports.{counted};
 
-#[derive(Clone, Copy)]
+use std::marker::Model;
+
+#[derive(Drop)]
 pub(crate) struct Tally {
     pub(crate) packets: u64,
     pub(crate) passed: u64,
@@ -10,10 +12,23 @@ pub(crate) struct Tally {
     pub(crate) passed_tokens: u128,
 }
 
-impl Tally {
-    pub(crate) fn new() -> Self
-        ensures { result ≡ none_yet }
-    {
+impl Model for Tally {
+    ghost use Rattle.traces.specs.Tallies.{Counts, Consistent};
+
+    ghost Value = { Counts };
+
+    ghost view = { λ t. record { packets = t.packets; passed = t.passed; tokens = t.tokens; passed_tokens = t.passed_tokens } };
+
+    ghost invariant = { λ t. Consistent (record { packets = t.packets; passed = t.passed; tokens = t.tokens; passed_tokens = t.passed_tokens }) };
+}
+
+impl Default for Tally {
+    ghost use Rattle.std.specs.Prelude.{◌≡◌};
+    ghost use Rattle.traces.specs.Reports.{none_yet};
+
+    ghost is_default = { λ t. t ≡ none_yet };
+
+    fn default() -> Self {
         Tally {
             packets: 0,
             passed: 0,
@@ -21,13 +36,13 @@ impl Tally {
             passed_tokens: 0,
         }
     }
+}
 
+impl Tally {
     // Counts one packet more.
     pub(crate) fn count(&mut self, tokens: u32, passes: bool)
-        requires consistent { Consistent self.old }
-        requires room { self.old.packets + 1 < 2 ^ 64 }
-        ensures after { self.new ≡ counted self.old tokens passes }
-        ensures consistent { Consistent self.new }
+        requires { self.old.packets + 1 < 2 ^ 64 }
+        ensures { self.new ≡ counted self.old tokens passes }
     {
         self.packets += 1;
         self.tokens += u128::from(tokens);
