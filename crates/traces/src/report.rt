@@ -56,10 +56,12 @@ fn write_fault(out: &mut String, number: u64, refusal: Refusal) -> Result<(), Al
 fn write_last(out: &mut String, tally: &Tally) -> Result<(), AllocError>
     ensures { OnOk result (string_bytes out.new ≡ string_bytes out.old ++ last_line tally.now) }
 {
-    let packets = tally.packets;
-    let passed = tally.passed;
-    let tokens = tally.tokens;
-    let passed_tokens = tally.passed_tokens;
+    let Tally {
+        packets,
+        passed,
+        tokens,
+        passed_tokens,
+    } = tally;
     writeln!(
         out,
         "passed {passed} of {packets} packets, {passed_tokens} of {tokens} tokens"

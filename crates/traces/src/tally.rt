@@ -4,7 +4,7 @@ ghost use Rattle.traces.specs.Reports.{counted};
 
 use std::marker::Model;
 
-#[derive(Drop)]
+#[derive(Default, Drop)]
 pub(crate) struct Tally {
     pub(crate) packets: u64,
     pub(crate) passed: u64,
@@ -20,22 +20,6 @@ impl Model for Tally {
     ghost view = { λ t. record { packets = t.packets; passed = t.passed; tokens = t.tokens; passed_tokens = t.passed_tokens } };
 
     ghost invariant = { λ t. Consistent (record { packets = t.packets; passed = t.passed; tokens = t.tokens; passed_tokens = t.passed_tokens }) };
-}
-
-impl Default for Tally {
-    ghost use Rattle.std.specs.Prelude.{◌≡◌};
-    ghost use Rattle.traces.specs.Reports.{none_yet};
-
-    ghost is_default = { λ t. t ≡ none_yet };
-
-    fn default() -> Self {
-        Tally {
-            packets: 0,
-            passed: 0,
-            tokens: 0,
-            passed_tokens: 0,
-        }
-    }
 }
 
 impl Tally {
