@@ -1,12 +1,9 @@
-// A packet trace against one rate and burst.
+// A packet trace against one rate and burst. `conform`, `conform_schedule` and `conform_leaky` are one program: the
+// gate runs each with one list of arguments.
 #![tactic(auto)]
 
 use std::process::ExitCode;
 
-// What went wrong is told already: an `Err` from here would be told a second time.
 fn main(rt: HostRuntime) -> ExitCode {
-    match traces::program::run(&rt) {
-        Ok(()) => ExitCode::SUCCESS,
-        Err(_) => ExitCode::FAILURE,
-    }
+    traces::program::run(&rt)
 }

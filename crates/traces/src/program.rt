@@ -4,10 +4,11 @@ use crate::report::{Ending, complaint, conform};
 use anyhow::{Context, bail};
 use std::env;
 use std::io::{Read, Write};
+use std::process::ExitCode;
 
 const USAGE: &str = "usage: conform RATE BURST [token|schedule|leaky]";
 
-// What an allocation that fails is told as.
+// What the user is told where no memory is left for a text.
 const OUT_OF_MEMORY: &str = "out of memory";
 
 fn arguments(rt: &HostRuntime) -> anyhow::Result<Arguments> {
@@ -32,11 +33,13 @@ fn print_report(rt: &HostRuntime) -> anyhow::Result<()> {
     Ok(())
 }
 
-/// Runs the program; what goes wrong is told on standard error, and then handed on.
-pub fn run(rt: &HostRuntime) -> anyhow::Result<()> {
-    let done = print_report(rt);
-    if let Err(e) = &done {
-        eprintln!(rt; "conform: {e}")?;
+/// Runs the program; what goes wrong is told on standard error, and makes the exit code a failure.
+pub fn run(rt: &HostRuntime) -> ExitCode {
+    match print_report(rt) {
+        Ok(()) => ExitCode::SUCCESS,
+        Err(e) => {
+            let _ = eprintln!(rt; "conform: {e}");
+            ExitCode::FAILURE
+        }
     }
-    done
 }

@@ -153,6 +153,7 @@ pub fn conform(heap: Global, settings: Arguments, trace: &[u8]) -> Result<Report
     ensures law { ListsAnswersAndSums }
 {
     let Arguments { rate, burst, form } = settings;
+    // Each form is a type of its own, so each has an arm.
     match form {
         Form::Token => charge_trace::<TokenBucket>(heap, rate, burst, trace),
         Form::Schedule => charge_trace::<VirtualScheduling>(heap, rate, burst, trace),
