@@ -37,10 +37,10 @@ onto n c = cond (is_digit c) (Some (capped (10 * n + (c - 48)))) None
 
 one_more : (d : Bool) (k m : ℕ) (cs : List ℕ) → cond d (Some (capped k)) None ≡ Some m → (capped m ≡ m) × (option_map capped (cond d (digits_after k cs) None) ≡ number_after m cs)
 one_more true k m cs here = let same : capped k ≡ m = cc in (omega arith, capped_alike cs k m (omega arith))
-one_more false k m cs here = let z : ◌≡◌ {A = ℕ} 0 1 = cc in absurd (omega arith)
+one_more false k m cs here = absurd cc
 
 no_more : (d : Bool) (k : ℕ) (cs : List ℕ) → cond d (Some (capped k)) None ≡ None → None ≡ option_map capped (cond d (digits_after k cs) None)
-no_more true k cs here = let z : ◌≡◌ {A = ℕ} 0 1 = cc in absurd (omega arith)
+no_more true k cs here = cc
 no_more false k cs here = refl
 
 -- a fold each call of which makes that number: `E` is what stops it

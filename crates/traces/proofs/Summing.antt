@@ -21,26 +21,23 @@ both t u =
       passed_tokens = t.passed_tokens + u.passed_tokens;
     }
 
-tally_by : (packets passed tokens passed_tokens packets' passed' tokens' passed_tokens' : ℕ) → packets ≡ packets' → passed ≡ passed' → tokens ≡ tokens' → passed_tokens ≡ passed_tokens' → ◌≡◌ {A = Tally} (record { packets = packets; passed = passed; tokens = tokens; passed_tokens = passed_tokens }) (record { packets = packets'; passed = passed'; tokens = tokens'; passed_tokens = passed_tokens' })
-tally_by packets passed tokens passed_tokens packets' passed' tokens' passed_tokens' p q r s = cc
-
 counted_first : (t : Tally) (p : Packet) (ps : List Packet) (v : Bool) (vs : List Bool) → both (counted t p.tokens v) (totals ps (passing ps vs)) ≡ both t (totals (p ∷ ps) (passing (p ∷ ps) (v ∷ vs)))
-counted_first t p ps true vs = tally_by _ _ _ _ _ _ _ _ (omega arith) (omega arith) (omega arith) (omega arith)
-counted_first t p ps false vs = tally_by _ _ _ _ _ _ _ _ (omega arith) (omega arith) (omega arith) (omega arith)
+counted_first t p ps true vs = grind arith
+counted_first t p ps false vs = grind arith
 
 -- a yes or no comes from a verdict
 verdict_of : (told : Told Bool) (v : Bool) → read_by yes_or_no told ≡ answered (yes_or_no v) → told ≡ answered v
 verdict_of (answered true) true e = refl
-verdict_of (answered true) false e = let z : ◌≡◌ {A = ℕ} 0 1 = cc in absurd (omega arith)
-verdict_of (answered false) true e = let z : ◌≡◌ {A = ℕ} 0 1 = cc in absurd (omega arith)
+verdict_of (answered true) false e = cc
+verdict_of (answered false) true e = cc
 verdict_of (answered false) false e = refl
-verdict_of (refused number) v e = let z : ◌≡◌ {A = ℕ} 0 1 = cc in absurd (omega arith)
+verdict_of (refused number) v e = cc
 
 none_more : (t : Tally) → both t (totals [] []) ≡ t
-none_more t = tally_by _ _ _ _ t.packets t.passed t.tokens t.passed_tokens (omega arith) (omega arith) (omega arith) (omega arith)
+none_more t = grind arith
 
 none_before : (t : Tally) → both none_yet t ≡ t
-none_before t = tally_by _ _ _ _ t.packets t.passed t.tokens t.passed_tokens (omega arith) (omega arith) (omega arith) (omega arith)
+none_before t = grind arith
 
 abbrev complete : ℕ → Tally → List Packet → List Bool → Outcome
 complete number t ps vs = record { text = listed number ps vs ++ last_line (both t (totals ps (passing ps vs))); ending = Complete }
@@ -58,9 +55,9 @@ module _ (m : Metered) (t : Tally) (l : List ℕ) (p : Packet) (v : Bool) (here 
 
 lines_listed : (ls : List (List ℕ)) (m : Metered) (t : Tally) (ps : List Packet) (vs : List Bool) → map packet_in ls ≡ map Some ps → answers m (map charge_of ps) ≡ map (λ v. answered (yes_or_no v)) vs → reported (run m t) ls ≡ complete (t.packets + 1) t ps vs
 lines_listed [] m t [] vs packets told = ap (λ u. record { text = last_line u; ending = Complete }) (sym (none_more t))
-lines_listed [] m t (p ∷ ps) vs packets told = let z : ◌≡◌ {A = ℕ} 0 1 = cc in absurd (omega arith)
-lines_listed (l ∷ ls) m t [] vs packets told = let z : ◌≡◌ {A = ℕ} 0 1 = cc in absurd (omega arith)
-lines_listed (l ∷ ls) m t (p ∷ ps) [] packets told = let z : ◌≡◌ {A = ℕ} 0 1 = cc in absurd (omega arith)
+lines_listed [] m t (p ∷ ps) vs packets told = cc
+lines_listed (l ∷ ls) m t [] vs packets told = cc
+lines_listed (l ∷ ls) m t (p ∷ ps) [] packets told = cc
 lines_listed (l ∷ ls) m t (p ∷ ps) (v ∷ vs) packets told =
     let here : packet_in l ≡ Some p = cc in
     let later : map packet_in ls ≡ map Some ps = cc in
