@@ -51,7 +51,7 @@ module _ (separator : ℕ) (text : List ℕ) where
   back_none none = sym (beyond-first separator text ∙ drop_all (place + 1) text (omega (arith, past_end none)))
 
 -- the first line of a text that is not empty, and the lines after it
-lines_cut : (text : List ℕ) → 0 < length text → lines text ≡ before 10 text ∷ lines (beyond 10 text)
+pub lines_cut : (text : List ℕ) → 0 < length text → lines text ≡ before 10 text ∷ lines (beyond 10 text)
 lines_cut [] some = absurd (omega arith)
 lines_cut (c ∷ []) some = elim (eqb c 10) as (λ e. cond e ([] ∷ []) ((c ∷ []) ∷ []) ≡ cond e [] (c ∷ []) ∷ lines (cond e [] [])) [ true ↦ refl | false ↦ refl ]
 lines_cut (c ∷ d ∷ cs) some =
@@ -60,10 +60,6 @@ lines_cut (c ∷ d ∷ cs) some =
       | true ↦ refl
       | false ↦ ap (onto_first c) rest
     ]
-
-pub lines_first : (text line rest : List ℕ) → 0 < length text → line ≡ before 10 text → rest ≡ beyond 10 text → lines text ≡ line ∷ lines rest
-lines_first text line rest some front back =
-    lines_cut text some ∙ ap (λ l. l ∷ lines (beyond 10 text)) (sym front) ∙ ap (λ b. line ∷ lines b) (sym back)
 
 -- a text has no more lines than bytes
 onto_first_at_most : (c : ℕ) (ls : List (List ℕ)) → length (onto_first c ls) ≤ suc (length ls)

@@ -25,6 +25,7 @@ impl<'a> Iterator for Lines<'a> {
 
     ghost remaining = { item_count (λ left. lines left.0.now) };
 
+    #[tactic(auto, using(crate::proofs::Cutting::lines_cut))]
     fn next(&mut self) -> Option<&'a [u8]> {
         if self.0.is_empty() {
             return None;

@@ -110,6 +110,7 @@ impl<M: Meter> Run<M> {
 }
 
 // Charges line after line, and closes a complete run with its last line.
+#[tactic(auto, using(crate::proofs::Cutting::lines_at_most))]
 fn charge_lines<M: Meter>(meter: M, trace: &[u8], out: &mut String) -> Result<Ending, AllocError>
     ensures { IfOk result (λ e. record { text = string_bytes out.new; ending = e } ≡ after_text (string_bytes out.old) (reported (run (M.Meter.meaning meter) none_yet) (lines trace.now))) }
 {
@@ -148,6 +149,7 @@ fn charge_trace<M: Meter>(
 
 /// Charges the packets of a trace to a new meter, each at its moment, and says which of them pass. The report does
 /// not depend on the form.
+#[tactic(auto, using(crate::proofs::Summing::lists_answers_and_sums))]
 pub fn conform(heap: Global, settings: Arguments, trace: &[u8]) -> Result<Report, AllocError>
     ensures value { IfOk result (λ o. record { text = string_bytes o.text; ending = o.ending } ≡ report_of settings.rate settings.burst trace.now) }
     ensures law { ListsAnswersAndSums }
