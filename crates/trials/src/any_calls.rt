@@ -2,11 +2,10 @@
 // from both; and the buckets that a call is handed, now and then not those of the envelope.
 use crate::chance::Chance;
 use crate::envelope_calls::Call;
+use crate::limits::{DAY_END, GRAINS_PER_TOKEN};
 use envelopes::colour::{Colour, Request};
 use std::alloc::{AllocError, Global};
 use tokens::bucket::Bucket;
-
-pub const DAY_END: u64 = 86_400_000_000;
 
 pub fn any_colour(chance: &mut Chance) -> Colour {
     match chance.between(0, 9) {
@@ -35,7 +34,7 @@ pub fn any_moment(chance: &mut Chance, latest: u64) -> u64 {
         DAY_END + 1,
         u64::MAX,
     ];
-    if chance.between(0, 24) == 0 {
+    if chance.one_in(25) {
         chance.pick(&rare)
     } else {
         latest.saturating_add(chance.pick(&edges))
@@ -44,7 +43,7 @@ pub fn any_moment(chance: &mut Chance, latest: u64) -> u64 {
 
 fn any_rank(chance: &mut Chance, flows: u64) -> u8 {
     let wrong = [0, flows.saturating_add(1), 255];
-    let rank = if chance.between(0, 19) == 0 {
+    let rank = if chance.one_in(20) {
         chance.pick(&wrong)
     } else {
         chance.between(1, flows)
@@ -64,7 +63,7 @@ pub fn held<B: Bucket>(buckets: &[B], rank: u8) -> (u64, u64) {
     let index = usize::from(rank).saturating_sub(1);
     let green = count_at(buckets, index);
     let yellow = count_at(buckets, index.saturating_add(buckets.len() / 2));
-    (green / 1_000_000, yellow / 1_000_000)
+    (green / GRAINS_PER_TOKEN, yellow / GRAINS_PER_TOKEN)
 }
 
 // A number of tokens: an edge, or about what the rank's buckets hold.
@@ -108,9 +107,9 @@ pub fn any_call<B: Bucket>(chance: &mut Chance, buckets: &[B], latest: u64) -> C
 
 // A bucket of another volume.
 fn other<B: Bucket>(chance: &mut Chance, bucket: B) -> B {
-    let tokens = u32::try_from(bucket.volume() / 1_000_000).unwrap_or(0);
+    let tokens = u32::try_from(bucket.volume() / GRAINS_PER_TOKEN).unwrap_or(0);
     let less = tokens.checked_sub(1).unwrap_or(4_294_967_295);
-    if chance.between(0, 1) == 0 {
+    if chance.one_in(2) {
         B::make(less)
     } else {
         B::make(tokens.saturating_add(1))
@@ -132,7 +131,7 @@ pub fn any_handed<B: Bucket>(
     buckets: &[B],
 ) -> Result<Vec<B>, AllocError> {
     let mut handed = copy(heap, buckets)?;
-    let at = chance.next() as usize % 16;
+    let at = chance.index(16);
     match chance.between(0, 29) {
         0 => {
             if let Some(bucket) = handed.get_mut(at) {

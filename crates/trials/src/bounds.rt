@@ -3,6 +3,7 @@
 // and all flows get no more Green and Yellow tokens than all counts and what all rates bring.
 use crate::chance::Chance;
 use crate::entries::{Entry, run};
+use crate::limits::GRAINS_PER_TOKEN;
 use crate::profiles::set_up;
 use envelopes::flow::Flow;
 use std::alloc::Global;
@@ -53,8 +54,13 @@ fn within(rt: &impl Abort, entries: &[Entry], from: usize, bound: Bound) -> Resu
         let most = bound
             .at_first(first)
             .saturating_add(time.saturating_mul(bound.rate));
-        assert!(rt; tokens.saturating_mul(1_000_000) <= most);
-        if tokens > 0 && tokens.saturating_add(1).saturating_mul(1_000_000) > most {
+        assert!(rt; tokens.saturating_mul(u128::from(GRAINS_PER_TOKEN)) <= most);
+        if tokens > 0
+            && tokens
+                .saturating_add(1)
+                .saturating_mul(u128::from(GRAINS_PER_TOKEN))
+                > most
+        {
             close = close.saturating_add(1);
         }
         if last.filled {

@@ -1,6 +1,7 @@
 // The two kinds of bucket against a closed form: with all that was ever offered less all that was ever spent as the
 // net, what is missing from a full bucket is how far the net has fallen below its highest value.
 use crate::chance::Chance;
+use crate::limits::GRAINS_PER_TOKEN;
 use std::process::Abort;
 use tokens::bucket::Bucket;
 use tokens::counting::CountingBucket;
@@ -66,7 +67,7 @@ fn sequence<B: Bucket>(rt: &impl Abort, seed: u64) {
         chance.between(0, 4_294_967_295),
     ];
     let tokens = u32::try_from(chance.pick(&volumes)).unwrap_or(0);
-    let volume = i128::from(tokens).wrapping_mul(1_000_000);
+    let volume = i128::from(tokens).wrapping_mul(i128::from(GRAINS_PER_TOKEN));
     let mut net = Net {
         volume,
         net: 0,
@@ -77,7 +78,7 @@ fn sequence<B: Bucket>(rt: &impl Abort, seed: u64) {
         assert_eq!(rt; i128::from(bucket.volume()), volume);
         assert_eq!(rt; i128::from(bucket.count()), net.count());
         let amount = any_amount(&mut chance, &net);
-        if chance.between(0, 1) == 0 {
+        if chance.one_in(2) {
             assert_eq!(rt; i128::from(bucket.offer(amount)), net.offer(amount));
         } else {
             assert_eq!(rt; bucket.spend(amount), net.spend(amount));

@@ -12,7 +12,7 @@ impl Chance {
         }
     }
 
-    pub fn next(&mut self) -> u64 {
+    fn next(&mut self) -> u64 {
         let mut x = self.state;
         x ^= x >> 12;
         x ^= x.wrapping_mul(1 << 25);
@@ -27,11 +27,24 @@ impl Chance {
         low.saturating_add(self.next() % spread)
     }
 
-    pub fn pick(&mut self, choices: &[u64]) -> u64 {
-        if choices.is_empty() {
-            return 0;
-        }
-        let at = self.next() as usize % choices.len();
-        choices[at]
+    // A rank from `low` to `high`, where they are in order.
+    pub fn rank(&mut self, low: u8, high: u8) -> u8 {
+        u8::try_from(self.between(u64::from(low), u64::from(high))).unwrap_or(low)
+    }
+
+    // True once in so many times.
+    pub fn one_in(&mut self, times: u64) -> bool {
+        self.between(1, times) == 1
+    }
+
+    // An index into a list of this length. (`as`: there is no `From` between `u64` and `usize`.)
+    pub fn index(&mut self, len: usize) -> usize {
+        self.next() as usize % len.max(1)
+    }
+
+    // One of the choices.
+    pub fn pick<T: Copy + Default>(&mut self, choices: &[T]) -> T {
+        let at = self.index(choices.len());
+        choices.get(at).copied().unwrap_or_default()
     }
 }

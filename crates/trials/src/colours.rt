@@ -3,6 +3,7 @@
 use crate::any_calls::{any_call, any_handed};
 use crate::chance::Chance;
 use crate::envelope_calls::{Told, put};
+use crate::limits::GRAINS_PER_TOKEN;
 use crate::profiles::set_up;
 use crate::shares::Shares;
 use envelopes::colour::Colour;
@@ -59,7 +60,7 @@ fn counts_of<B: Bucket>(heap: Global, buckets: &[B]) -> Result<Vec<u64>, AllocEr
 // What is taken out of a bucket, if anything.
 fn drain_one<B: Bucket>(chance: &mut Chance, bucket: &mut B) -> u64 {
     let grains = chance.between(0, bucket.count());
-    let taken = chance.between(0, 1) == 0 && bucket.spend(grains);
+    let taken = chance.one_in(2) && bucket.spend(grains);
     if taken { grains } else { 0 }
 }
 
@@ -73,7 +74,7 @@ fn drain<B: Bucket>(chance: &mut Chance, buckets: &mut [B], shares: &mut Shares)
 // Buckets that are not the envelope's, so that only fill is not refused. No damaged one has a right volume.
 fn swap_all<B: Bucket>(buckets: &mut [B]) {
     for bucket in buckets.iter_mut() {
-        let tokens = u32::try_from(bucket.volume() / 1_000_000).unwrap_or(0);
+        let tokens = u32::try_from(bucket.volume() / GRAINS_PER_TOKEN).unwrap_or(0);
         *bucket = B::make(tokens.saturating_add(2));
     }
 }

@@ -1,5 +1,6 @@
 // Drafts against their rules: they grow, and are opened and closed again.
 use crate::chance::Chance;
+use crate::limits::HIGHEST_RATE;
 use crate::rows::same_flow;
 use envelopes::draft::Draft;
 use envelopes::flow::{Flow, Supply};
@@ -8,8 +9,6 @@ use envelopes::row::Row;
 use std::alloc::Global;
 use std::process::Abort;
 use std::test::Fail;
-
-const HIGHEST_RATE: u128 = 100_000_000;
 
 fn number(refused: Result<(), Refusal>) -> u8 {
     match refused {
@@ -34,7 +33,7 @@ fn add_refusal(flows: &[Flow], cf0: bool, more: Flow) -> u8 {
         4
     } else if cf0 && some_cf {
         6
-    } else if rates > HIGHEST_RATE {
+    } else if rates > u128::from(HIGHEST_RATE) {
         5
     } else {
         0
@@ -63,7 +62,7 @@ fn any_flow(chance: &mut Chance) -> Flow {
         maximum: Some(100_000_000),
         volume: chance.between(0, 1_000),
     };
-    let cf = chance.between(0, 11) == 0;
+    let cf = chance.one_in(12);
     Flow { green, yellow, cf }
 }
 
@@ -121,8 +120,8 @@ fn change(
     flows: &mut Vec<Flow>,
     cf0: &mut bool,
 ) -> Result<u8, Fail> {
-    let to = chance.between(0, 1) == 0;
-    if chance.between(0, 3) == 0 {
+    let to = chance.one_in(2);
+    if chance.one_in(4) {
         set(rt, draft, flows.as_slice(), to, cf0)
     } else {
         add(rt, chance, draft, flows, *cf0)

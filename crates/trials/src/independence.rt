@@ -94,7 +94,7 @@ fn many_moments(
         moment = later(chance, moment);
         go_on(chance, one, counting, plan.below, moment, plan.free);
         go_on(chance, other, deficit, plan.below, moment, plan.free);
-        if chance.between(0, 3) > 0 {
+        if !chance.one_in(4) {
             let request = shared(chance, counting, plan.below, moment);
             ask_both(rt, request, one, counting, other, deficit, plan.cf0, seen);
         }
@@ -136,7 +136,7 @@ fn sequence(
     seen: &mut Seen,
 ) -> Result<(), Fail> {
     let mut chance = Chance::new(seed);
-    let cf0 = chance.between(0, 2) == 0;
+    let cf0 = chance.one_in(3);
     let any = any_flows(heap, &mut chance, cf0)?;
     let highest = any.len() as u64;
     let below = u8::try_from(chance.between(0, highest.saturating_sub(1))).unwrap_or(0);

@@ -24,6 +24,8 @@ mod figures;
 #[cfg(test)]
 mod independence;
 #[cfg(test)]
+mod limits;
+#[cfg(test)]
 mod lone_meter;
 #[cfg(test)]
 mod meters;

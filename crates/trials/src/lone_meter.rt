@@ -30,7 +30,7 @@ fn gentle<M: Meter>(chance: &mut Chance, meters: &[Option<M>], call: Call) -> Ca
     if let Call::Judge(request) = call {
         if let Some(meter) = meter_of(meters, request.rank) {
             let passes = matches!(meter.question(request.tokens, request.moment), Ok(true));
-            if !passes && chance.between(0, 15) > 0 {
+            if !passes && !chance.one_in(16) {
                 return Call::Advance(request.moment);
             }
         }

@@ -1,5 +1,6 @@
 // The three forms of meter against the meter by windows.
 use crate::chance::Chance;
+use crate::limits::{DAY_END, GRAINS_PER_TOKEN};
 use crate::windows::Windows;
 use std::alloc::Global;
 use std::process::Abort;
@@ -10,8 +11,6 @@ use tokens::meter::Meter;
 use tokens::refusal::Refusal;
 use tokens::token_bucket::TokenBucket;
 use tokens::virtual_scheduling::VirtualScheduling;
-
-const DAY_END: u64 = 86_400_000_000;
 
 const RATES: [u64; 6] = [1, 2, 1_000, 125_000, 99_999_999, 100_000_000];
 
@@ -59,7 +58,9 @@ fn any_tokens(chance: &mut Chance, burst: u64) -> u32 {
 
 // A moment: an edge, before the latest one, or about when so many tokens have come in.
 fn any_moment(chance: &mut Chance, latest: u64, rate: u64, tokens: u32) -> u64 {
-    let due = latest.saturating_add(u64::from(tokens).saturating_mul(1_000_000) / rate.max(1));
+    let due = latest.saturating_add(
+        u64::from(tokens).saturating_mul(GRAINS_PER_TOKEN) / rate.max(1),
+    );
     let edges = [
         latest,
         latest,
@@ -78,7 +79,7 @@ fn any_moment(chance: &mut Chance, latest: u64, rate: u64, tokens: u32) -> u64 {
         u64::MAX,
         latest.saturating_add(3_600_000_000),
     ];
-    if chance.between(0, 19) == 0 {
+    if chance.one_in(20) {
         chance.pick(&rare)
     } else {
         chance.pick(&edges)
@@ -105,12 +106,12 @@ fn told<M: Meter>(meter: &mut M, call: Call) -> Result<Answer, u8> {
 // One sequence of calls upon all three forms and the meter by windows.
 fn sequence(rt: &impl Abort, heap: Global, seed: u64, kinds: &mut Kinds) -> Result<(), Fail> {
     let mut chance = Chance::new(seed);
-    let rate = if chance.between(0, 3) == 0 {
+    let rate = if chance.one_in(4) {
         chance.between(1, 100_000_000)
     } else {
         chance.pick(&RATES)
     };
-    let burst = if chance.between(0, 3) == 0 {
+    let burst = if chance.one_in(4) {
         chance.between(1, 1_000_000_000)
     } else {
         chance.pick(&BURSTS)

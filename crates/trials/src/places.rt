@@ -1,4 +1,5 @@
 // The places of an envelope by pouring: a flow's green and yellow one, and where each runs on to.
+use crate::limits::GRAINS_PER_TOKEN;
 use envelopes::flow::{Flow, Supply};
 
 #[derive(Clone, Copy)]
@@ -13,7 +14,7 @@ pub struct Place {
 
 impl Place {
     pub fn new(supply: Supply, next: Option<usize>) -> Place {
-        let volume = u128::from(supply.volume).saturating_mul(1_000_000);
+        let volume = u128::from(supply.volume).saturating_mul(u128::from(GRAINS_PER_TOKEN));
         Place {
             rate: u128::from(supply.rate),
             maximum: supply.maximum,

@@ -1,5 +1,6 @@
 // Pseudo-random flows, and the envelope and the buckets of them.
 use crate::chance::Chance;
+use crate::limits::HIGHEST_RATE;
 use envelopes::draft::Draft;
 use envelopes::envelope::Envelope;
 use envelopes::flow::{Flow, Supply};
@@ -8,8 +9,6 @@ use envelopes::row::Row;
 use std::alloc::{AllocError, Global};
 use std::test::Fail;
 use tokens::bucket::Bucket;
-
-pub const HIGHEST_RATE: u64 = 100_000_000;
 
 const SMALL_RATES: [u64; 7] = [0, 0, 1, 10, 333, 1_000, 1_000];
 
@@ -37,7 +36,7 @@ fn any_maximum(chance: &mut Chance, rate: u64) -> Option<u64> {
         chance.between(rate, HIGHEST_RATE),
         HIGHEST_RATE,
     ];
-    if chance.between(0, 1) == 0 {
+    if chance.one_in(2) {
         return None;
     }
     Some(chance.pick(&edges).min(HIGHEST_RATE))
@@ -62,13 +61,13 @@ fn any_supply(chance: &mut Chance, small: bool, left: u64) -> Supply {
 pub fn any_flows(heap: Global, chance: &mut Chance, cf0: bool) -> Result<Vec<Flow>, AllocError> {
     let mut flows = Vec::new(heap);
     let mut left = HIGHEST_RATE;
-    let small = chance.between(0, 2) > 0;
+    let small = !chance.one_in(3);
     for _ in 0..chance.between(1, 8) {
         let green = any_supply(chance, small, left);
         left = left.saturating_sub(green.rate);
         let yellow = any_supply(chance, small, left);
         left = left.saturating_sub(yellow.rate);
-        let cf = !cf0 && chance.between(0, 2) == 0;
+        let cf = !cf0 && chance.one_in(3);
         flows.push(Flow { green, yellow, cf })?;
     }
     Ok(flows)
@@ -115,7 +114,7 @@ pub fn set_up<B: Bucket>(
     heap: Global,
     chance: &mut Chance,
 ) -> Result<(Vec<Flow>, bool, Envelope, Vec<B>), Fail> {
-    let cf0 = chance.between(0, 2) == 0;
+    let cf0 = chance.one_in(3);
     let flows = any_flows(heap, chance, cf0)?;
     let buckets = make_buckets::<B>(heap, flows.as_slice())?;
     let envelope = open(flows.as_slice(), cf0)?;

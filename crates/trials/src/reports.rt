@@ -241,7 +241,7 @@ fn random_report(rt: &impl Abort, heap: Global, seed: u64) -> Result<(), Fail> {
         writeln!(trace, "{size} {moment}")?;
         writeln!(text, "{number} {size} {moment} {verdict}")?;
     }
-    if chance.between(0, 1) == 0 {
+    if chance.one_in(2) {
         writeln!(trace, "0 {moment}")?;
         writeln!(text, "fault 61 8")?;
         return expect(

@@ -1,10 +1,9 @@
 // Rows against their rules: flows at the limits.
 use crate::chance::Chance;
+use crate::limits::{HIGHEST_RATE, LARGEST_VOLUME};
 use envelopes::flow::{Flow, Supply};
 use envelopes::row::Row;
 use std::process::Abort;
-
-const HIGHEST_RATE: u128 = 100_000_000;
 
 fn same_supply(one: Supply, other: Supply) -> bool {
     one.rate == other.rate && one.maximum == other.maximum && one.volume == other.volume
@@ -28,7 +27,7 @@ fn edge_maximum(chance: &mut Chance, rate: u64) -> Option<u64> {
         u64::MAX,
     ];
     let maximum = chance.pick(&edges);
-    if chance.between(0, 2) == 0 {
+    if chance.one_in(3) {
         Some(maximum)
     } else {
         None
@@ -57,7 +56,7 @@ fn edge_supply(chance: &mut Chance) -> Supply {
         1_000_000_001,
         u64::MAX,
     ];
-    let rate = if chance.between(0, 1) == 0 {
+    let rate = if chance.one_in(2) {
         chance.between(0, 1)
     } else {
         chance.pick(&rates)
@@ -71,18 +70,20 @@ fn edge_supply(chance: &mut Chance) -> Supply {
 
 fn wrong_maximum(supply: Supply) -> bool {
     match supply.maximum {
-        Some(maximum) => !(supply.rate..=100_000_000).contains(&maximum),
+        Some(maximum) => !(supply.rate..=HIGHEST_RATE).contains(&maximum),
         None => false,
     }
 }
 
 // Why no row is made of the flow, or 0.
 fn row_refusal(flow: Flow) -> u8 {
-    if u128::from(flow.green.rate).saturating_add(u128::from(flow.yellow.rate)) > HIGHEST_RATE {
+    if u128::from(flow.green.rate).saturating_add(u128::from(flow.yellow.rate))
+        > u128::from(HIGHEST_RATE)
+    {
         1
     } else if wrong_maximum(flow.green) || wrong_maximum(flow.yellow) {
         2
-    } else if flow.green.volume.max(flow.yellow.volume) > 1_000_000_000 {
+    } else if flow.green.volume.max(flow.yellow.volume) > LARGEST_VOLUME {
         3
     } else {
         0
@@ -93,7 +94,7 @@ fn try_row(rt: &impl Abort, chance: &mut Chance) -> u8 {
     let flow = Flow {
         green: edge_supply(chance),
         yellow: edge_supply(chance),
-        cf: chance.between(0, 1) == 0,
+        cf: chance.one_in(2),
     };
     let expected = row_refusal(flow);
     match Row::new(flow) {

@@ -3,12 +3,11 @@
 // poured in at its own place and runs on until all of it is taken or lost, one source after the other, the lowest
 // rank's first. There are no buckets, and numbers are of 128 bits.
 use crate::envelope_calls::{Call, Told};
+use crate::limits::{DAY_END, GRAINS_PER_TOKEN};
 use crate::places::{Place, after_green, after_yellow, green_of, yellow_of};
 use envelopes::colour::{Colour, Request};
 use envelopes::flow::Flow;
 use std::alloc::{AllocError, Global};
-
-const DAY_END: u64 = 24 * 60 * 60 * 1_000_000;
 
 #[derive(Drop)]
 pub struct Shares {
@@ -125,7 +124,7 @@ impl Shares {
 
     fn colour(&mut self, request: Request) -> Colour {
         let rank = usize::from(request.rank);
-        let grains = u128::from(request.tokens).saturating_mul(1_000_000);
+        let grains = u128::from(request.tokens).saturating_mul(u128::from(GRAINS_PER_TOKEN));
         if request.asked == Colour::Red {
             return Colour::Red;
         }

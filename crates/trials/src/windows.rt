@@ -1,6 +1,7 @@
 // A single-rate meter by windows, written from the rule: a packet passes where it is no larger than the burst and,
 // counted from each packet that passed before, all that passed since then is at most the burst and what the rate
 // brings in the time since then. There is no level. Numbers are of 128 bits, and no sum comes near that.
+use crate::limits::{DAY_END, GRAINS_PER_TOKEN, HIGHEST_RATE, LARGEST_BURST};
 use std::alloc::{AllocError, Global};
 use tokens::calls::{Answer, Call};
 
@@ -15,7 +16,7 @@ pub struct Windows {
 impl Windows {
     // None where the rate or the burst is out of range.
     pub fn new(heap: Global, rate: u64, burst: u64) -> Option<Windows> {
-        if matches!(rate, 1..=100_000_000) && matches!(burst, 1..=1_000_000_000) {
+        if (1..=HIGHEST_RATE).contains(&rate) && (1..=LARGEST_BURST).contains(&burst) {
             return Some(Windows {
                 rate: u128::from(rate),
                 burst: u128::from(burst),
@@ -40,9 +41,9 @@ impl Windows {
             let time = u128::from(moment.saturating_sub(*then));
             let room = self
                 .burst
-                .saturating_mul(1_000_000)
+                .saturating_mul(u128::from(GRAINS_PER_TOKEN))
                 .saturating_add(self.rate.saturating_mul(time));
-            if sum.saturating_mul(1_000_000) > room {
+            if sum.saturating_mul(u128::from(GRAINS_PER_TOKEN)) > room {
                 return false;
             }
         }
@@ -55,7 +56,7 @@ impl Windows {
             Some(8)
         } else if moment < self.latest {
             Some(10)
-        } else if moment > 24 * 60 * 60 * 1_000_000 {
+        } else if moment > DAY_END {
             Some(11)
         } else {
             None

@@ -1,0 +1,14 @@
+// Units and limits, written anew from the rules: a wrong one in the libraries would be seen.
+
+pub const GRAINS_PER_TOKEN: u64 = 1_000_000;
+
+// The last moment of a service day, in microseconds.
+pub const DAY_END: u64 = 24 * 60 * 60 * 1_000_000;
+
+// In tokens a second.
+pub const HIGHEST_RATE: u64 = 100_000_000;
+
+// Of a flow's bucket and of a meter, in tokens.
+pub const LARGEST_VOLUME: u64 = 1_000_000_000;
+
+pub const LARGEST_BURST: u64 = 1_000_000_000;
