@@ -2,11 +2,14 @@
 // gets no more Green tokens than its green count after the first call and what its limit brings in the time between,
 // and all flows get no more Green and Yellow tokens than all counts and what all rates bring.
 use crate::chance::Chance;
-use crate::entries::{Entry, run};
+use crate::entries::{Asking, Entry, run};
 use crate::limits::GRAINS_PER_TOKEN;
-use crate::profiles::set_up;
+use crate::opened::Opened;
+use crate::profiles::Profile;
+use crate::rows::rates_of;
+use envelopes::colour::Colour;
 use envelopes::flow::Flow;
-use std::alloc::Global;
+use std::alloc::AllocGlobal;
 use std::process::Abort;
 use std::test::Fail;
 use tokens::bucket::Bucket;
@@ -21,114 +24,113 @@ struct Bound {
 }
 
 impl Bound {
+    // A flow's Green tokens: the smaller of the green maximum, if there is one, and the sum of green rates from the
+    // rank up.
+    fn of_flow(flows: &[Flow], rank: u8) -> Bound {
+        let index = usize::from(rank).saturating_sub(1);
+        let rates = flows
+            .iter()
+            .skip(index)
+            .map(|flow| u128::from(flow.green.rate))
+            .fold(0, u128::saturating_add);
+        let maximum = flows.get(index).and_then(|flow| flow.green.maximum);
+        Bound {
+            rank: Some(rank),
+            rate: maximum.map_or(rates, |maximum| rates.min(u128::from(maximum))),
+        }
+    }
+
+    // All Green and Yellow tokens.
+    fn of_all(flows: &[Flow]) -> Bound {
+        Bound {
+            rank: None,
+            rate: flows.iter().map(rates_of).fold(0, u128::saturating_add),
+        }
+    }
+
     fn declared(&self, entry: &Entry) -> u128 {
-        match self.rank {
-            None => entry.green.saturating_add(entry.yellow),
-            Some(rank) if rank == entry.rank => entry.green,
-            Some(_) => 0,
+        let Some((request, colour)) = entry.declared() else {
+            return 0;
+        };
+        let counts = match self.rank {
+            None => colour != Colour::Red,
+            Some(rank) => request.rank == rank && colour == Colour::Green,
+        };
+        if counts {
+            u128::from(request.tokens)
+        } else {
+            0
         }
     }
 
     fn at_first(&self, entry: &Entry) -> u128 {
+        let counts = entry.counts.iter().map(|count| u128::from(*count));
         match self.rank {
-            None => entry.total,
+            None => counts.fold(0, u128::saturating_add),
             Some(rank) => {
                 let index = usize::from(rank).saturating_sub(1);
-                entry.counts.get(index).copied().unwrap_or(0)
+                counts.skip(index).next().unwrap_or(0)
             }
         }
     }
-}
 
-// From one accepted call to every later one up to the next fill. Answers how often one more token would have been too
-// much.
-fn within(rt: &impl Abort, entries: &[Entry], from: usize, bound: Bound) -> Result<u64, Fail> {
-    let Some(first) = entries.get(from) else {
-        return Ok(0);
-    };
-    let mut tokens = 0u128;
-    let mut close = 0u64;
-    for last in entries.iter().skip(from.saturating_add(1)) {
-        tokens = tokens.saturating_add(bound.declared(last));
-        let time = last.latest.saturating_sub(first.latest);
-        let most = bound
-            .at_first(first)
-            .saturating_add(time.saturating_mul(bound.rate));
-        assert!(rt; tokens.saturating_mul(u128::from(GRAINS_PER_TOKEN)) <= most);
-        if tokens > 0
-            && tokens
-                .saturating_add(1)
-                .saturating_mul(u128::from(GRAINS_PER_TOKEN))
-                > most
-        {
-            close = close.saturating_add(1);
+    // From the first of some accepted calls to every later one up to the next fill. Answers how often one more token
+    // would have been too much.
+    fn within(&self, rt: &impl Abort, entries: &[Entry]) -> u64 {
+        let Some((first, later)) = entries.split_first() else {
+            return 0;
+        };
+        let held = self.at_first(first);
+        let mut tokens = 0u128;
+        let mut close = 0u64;
+        for last in later {
+            tokens = tokens.saturating_add(self.declared(last));
+            let time = u128::from(last.latest.saturating_sub(first.latest));
+            let most = held.saturating_add(time.saturating_mul(self.rate));
+            let grains = tokens.saturating_mul(u128::from(GRAINS_PER_TOKEN));
+            assert!(rt; grains <= most);
+            if tokens > 0 && grains.saturating_add(u128::from(GRAINS_PER_TOKEN)) > most {
+                close = close.saturating_add(1);
+            }
+            if last.is_fill() {
+                break;
+            }
         }
-        if last.filled {
-            return Ok(close);
-        }
+        close
     }
-    Ok(close)
-}
 
-fn within_all(rt: &impl Abort, entries: &[Entry], bound: Bound) -> Result<u64, Fail> {
-    let mut close = 0u64;
-    for from in 0..entries.len() {
-        close = close.saturating_add(within(rt, entries, from, bound)?);
+    // From each accepted call.
+    fn within_all(&self, rt: &impl Abort, entries: &[Entry]) -> u64 {
+        (0..entries.len())
+            .map(|from| self.within(rt, &entries[from..]))
+            .fold(0, u64::saturating_add)
     }
-    Ok(close)
-}
-
-// The smaller of the green maximum, if there is one, and the sum of green rates from the rank up.
-fn green_bound(flows: &[Flow], rank: u8) -> Bound {
-    let index = usize::from(rank).saturating_sub(1);
-    let mut rate = 0u128;
-    for flow in flows.iter().skip(index) {
-        rate = rate.saturating_add(u128::from(flow.green.rate));
-    }
-    if let Some(flow) = flows.get(index) {
-        if let Some(maximum) = flow.green.maximum {
-            rate = rate.min(u128::from(maximum));
-        }
-    }
-    Bound {
-        rank: Some(rank),
-        rate,
-    }
-}
-
-fn whole_bound(flows: &[Flow]) -> Bound {
-    let mut rate = 0u128;
-    for flow in flows {
-        rate = rate
-            .saturating_add(u128::from(flow.green.rate))
-            .saturating_add(u128::from(flow.yellow.rate));
-    }
-    Bound { rank: None, rate }
-}
-
-fn within_each(rt: &impl Abort, entries: &[Entry], flows: &[Flow]) -> Result<u64, Fail> {
-    let mut close = 0u64;
-    for rank in 1..=8 {
-        close = close.saturating_add(within_all(rt, entries, green_bound(flows, rank))?);
-    }
-    Ok(close)
 }
 
 // How often the bound of a flow, and that of all flows, was close.
-fn sequence<B: Bucket>(rt: &impl Abort, heap: Global, seed: u64) -> Result<(u64, u64), Fail> {
+#[derive(Clone, Copy)]
+struct Close {
+    of_flows: u64,
+    of_all: u64,
+}
+
+fn sequence<B: Bucket>(rt: &(impl Abort + AllocGlobal), seed: u64) -> Result<Close, Fail> {
     let mut chance = Chance::new(seed);
-    let (flows, _, mut envelope, mut buckets) = set_up::<B>(heap, &mut chance)?;
-    let greedy = seed % 2 == 0;
-    let entries = run(
-        heap,
-        &mut chance,
-        &mut envelope,
-        buckets.as_mut_slice(),
-        greedy,
-    )?;
-    let of_flows = within_each(rt, entries.as_slice(), flows.as_slice())?;
-    let of_all = within_all(rt, entries.as_slice(), whole_bound(flows.as_slice()))?;
-    Ok((of_flows, of_all))
+    let profile = Profile::any(rt.alloc(), &mut chance)?;
+    let mut opened = Opened::<B>::new(rt.alloc(), &profile)?;
+    let asking = if seed % 2 == 0 {
+        Asking::All
+    } else {
+        Asking::Any
+    };
+    let entries = run(rt.alloc(), &mut chance, &mut opened, asking)?;
+    let flows = profile.flows.as_slice();
+    Ok(Close {
+        of_flows: (1..=8)
+            .map(|rank| Bound::of_flow(flows, rank).within_all(rt, entries.as_slice()))
+            .fold(0, u64::saturating_add),
+        of_all: Bound::of_all(flows).within_all(rt, entries.as_slice()),
+    })
 }
 
 #[test]
@@ -136,10 +138,10 @@ fn tokens_stay_within_counts_and_rates(rt: HostRuntime) -> Result<(), Fail> {
     let mut of_flows = 0u64;
     let mut of_all = 0u64;
     for seed in 0..600 {
-        let (flows, all) = sequence::<CountingBucket>(&rt, rt.alloc(), seed)?;
-        of_flows = of_flows.saturating_add(flows);
-        of_all = of_all.saturating_add(all);
-        sequence::<DeficitBucket>(&rt, rt.alloc(), seed.saturating_add(2_000))?;
+        let close = sequence::<CountingBucket>(&rt, seed)?;
+        of_flows = of_flows.saturating_add(close.of_flows);
+        of_all = of_all.saturating_add(close.of_all);
+        sequence::<DeficitBucket>(&rt, seed + 2_000)?;
     }
     assert!(rt; of_flows > 50_000 && of_all > 2_000);
     Ok(())

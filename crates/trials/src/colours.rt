@@ -1,167 +1,132 @@
 // Envelopes over both kinds of bucket against the envelope by pouring: every answer, every refusal, and all counts
 // after each call.
-use crate::any_calls::{any_call, any_handed};
+use crate::any_calls::{any_call, any_handed, volume_of};
+use crate::causes::Cause;
 use crate::chance::Chance;
+use crate::contents::contents_of;
+use crate::counted::assert_came;
 use crate::envelope_calls::{Told, put};
-use crate::limits::GRAINS_PER_TOKEN;
-use crate::profiles::set_up;
+use crate::opened::Opened;
+use crate::profiles::Profile;
 use crate::shares::Shares;
 use envelopes::colour::Colour;
-use envelopes::envelope::Envelope;
-use std::alloc::{AllocError, Global};
+use envelopes::refusal::Refusal;
+use std::alloc::{AllocGlobal, Global};
 use std::process::Abort;
 use std::test::Fail;
 use tokens::bucket::Bucket;
 use tokens::counting::CountingBucket;
 use tokens::deficit::DeficitBucket;
 
-// How often each kind of answer came.
-#[derive(Clone, Copy)]
-struct Kinds {
-    green: u64,
-    yellow: u64,
-    red: u64,
-    others: u64,
-    refused: [u64; 5],
+// One envelope of the library and one by pouring, of one profile.
+#[derive(Drop)]
+struct Both<B> {
+    opened: Opened<B>,
+    shares: Shares,
 }
 
-impl Kinds {
-    fn note(&mut self, told: Result<Told, u8>) {
-        match told {
-            Ok(Told::Colour(Colour::Green)) => self.green = self.green.saturating_add(1),
-            Ok(Told::Colour(Colour::Yellow)) => self.yellow = self.yellow.saturating_add(1),
-            Ok(Told::Colour(Colour::Red)) => self.red = self.red.saturating_add(1),
-            Ok(_) => self.others = self.others.saturating_add(1),
-            Err(7) => self.refused[0] = self.refused[0].saturating_add(1),
-            Err(8) => self.refused[1] = self.refused[1].saturating_add(1),
-            Err(9) => self.refused[2] = self.refused[2].saturating_add(1),
-            Err(10) => self.refused[3] = self.refused[3].saturating_add(1),
-            Err(_) => self.refused[4] = self.refused[4].saturating_add(1),
+impl<B: Bucket> Both<B> {
+    fn any(heap: Global, chance: &mut Chance) -> Result<Both<B>, Fail> {
+        let profile = Profile::any(heap, chance)?;
+        Ok(Both {
+            opened: Opened::new(heap, &profile)?,
+            shares: Shares::new(heap, &profile)?,
+        })
+    }
+
+    // Takes something out of some of the buckets, so that the first calls do not find them full.
+    fn drain(&mut self, chance: &mut Chance) {
+        for (index, bucket) in self.opened.buckets.iter_mut().enumerate() {
+            let grains = chance.between(0, bucket.count());
+            if chance.one_in(2) && bucket.spend(grains) {
+                self.shares.take_from_bucket(index, grains);
+            }
         }
     }
-}
 
-fn volumes_of<B: Bucket>(heap: Global, buckets: &[B]) -> Result<Vec<u64>, AllocError> {
-    let mut volumes = Vec::new(heap);
-    for bucket in buckets {
-        volumes.push(bucket.volume())?;
+    // Buckets that are not the envelope's, so that only fill is not refused. No damaged one has a right volume.
+    fn swap_all(&mut self) {
+        for bucket in self.opened.buckets.iter_mut() {
+            *bucket = B::make(volume_of(*bucket).saturating_add(2));
+        }
     }
-    Ok(volumes)
-}
 
-fn counts_of<B: Bucket>(heap: Global, buckets: &[B]) -> Result<Vec<u64>, AllocError> {
-    let mut counts = Vec::new(heap);
-    for bucket in buckets {
-        counts.push(bucket.count())?;
-    }
-    Ok(counts)
-}
-
-// What is taken out of a bucket, if anything.
-fn drain_one<B: Bucket>(chance: &mut Chance, bucket: &mut B) -> u64 {
-    let grains = chance.between(0, bucket.count());
-    let taken = chance.one_in(2) && bucket.spend(grains);
-    if taken { grains } else { 0 }
-}
-
-// Takes something out of some of the buckets, so that the first calls do not find them full.
-fn drain<B: Bucket>(chance: &mut Chance, buckets: &mut [B], shares: &mut Shares) {
-    for (index, bucket) in buckets.iter_mut().enumerate() {
-        shares.take_from_bucket(index, drain_one(chance, bucket));
-    }
-}
-
-// Buckets that are not the envelope's, so that only fill is not refused. No damaged one has a right volume.
-fn swap_all<B: Bucket>(buckets: &mut [B]) {
-    for bucket in buckets.iter_mut() {
-        let tokens = u32::try_from(bucket.volume() / GRAINS_PER_TOKEN).unwrap_or(0);
-        *bucket = B::make(tokens.saturating_add(2));
+    // One call upon both. What a refused call is handed stays as it was.
+    fn step(
+        &mut self,
+        rt: &(impl Abort + AllocGlobal),
+        chance: &mut Chance,
+    ) -> Result<Result<Told, Cause>, Fail> {
+        let call = any_call(chance, &self.opened);
+        let mut handed = any_handed(rt.alloc(), chance, self.opened.buckets.as_slice())?;
+        let before = contents_of(rt.alloc(), handed.as_slice())?;
+        let expected = self.shares.put(before.as_slice(), call);
+        let told = put(&mut self.opened.envelope, handed.as_mut_slice(), call);
+        assert_eq!(rt;
+            told.map_err(Refusal::number),
+            expected.map_err(Cause::number)
+        );
+        assert_eq!(rt; self.opened.latest(), self.shares.latest());
+        let after = contents_of(rt.alloc(), handed.as_slice())?;
+        if expected.is_ok() {
+            for (index, contents) in after.iter().enumerate() {
+                assert_eq!(rt; Some(*contents), self.shares.bucket(index));
+            }
+            self.opened.buckets = handed;
+        } else {
+            assert_eq!(rt; after, before);
+        }
+        Ok(expected)
     }
 }
 
-fn same_as_shares<B: Bucket>(rt: &impl Abort, buckets: &[B], shares: &Shares) {
-    for (index, bucket) in buckets.iter().enumerate() {
-        let (held, volume) = shares.bucket(index);
-        assert_eq!(rt; u128::from(bucket.count()), held);
-        assert_eq!(rt; u128::from(bucket.volume()), volume);
-    }
-}
-
-// One call upon both. What a refused call is handed stays as it was.
-fn step<B: Bucket>(
-    rt: &impl Abort,
-    heap: Global,
-    chance: &mut Chance,
-    envelope: &mut Envelope,
-    buckets: &mut Vec<B>,
-    shares: &mut Shares,
-) -> Result<Result<Told, u8>, Fail> {
-    let call = any_call(chance, buckets.as_slice(), shares.latest());
-    let mut handed = any_handed(heap, chance, buckets.as_slice())?;
-    let volumes = volumes_of(heap, handed.as_slice())?;
-    let counts = counts_of(heap, handed.as_slice())?;
-    let expected = shares.put(volumes.as_slice(), call);
-    assert_eq!(rt; put(envelope, handed.as_mut_slice(), call), expected);
-    assert_eq!(rt; envelope.latest(), shares.latest());
-    if expected.is_ok() {
-        same_as_shares(rt, handed.as_slice(), shares);
-        *buckets = handed;
-    } else {
-        assert_eq!(rt; volumes_of(heap, handed.as_slice())?, volumes);
-        assert_eq!(rt; counts_of(heap, handed.as_slice())?, counts);
-    }
-    Ok(expected)
-}
-
+// Notes what was told.
 fn sequence<B: Bucket>(
-    rt: &impl Abort,
-    heap: Global,
+    rt: &(impl Abort + AllocGlobal),
     seed: u64,
-    kinds: &mut Kinds,
+    told: &mut Vec<Result<Told, Cause>>,
 ) -> Result<(), Fail> {
     let mut chance = Chance::new(seed);
-    let (flows, cf0, mut envelope, mut buckets) = set_up::<B>(heap, &mut chance)?;
-    let mut shares = Shares::new(heap, flows.as_slice(), cf0)?;
-    drain(&mut chance, buckets.as_mut_slice(), &mut shares);
+    let mut both = Both::<B>::any(rt.alloc(), &mut chance)?;
+    both.drain(&mut chance);
     if seed % 8 == 0 {
-        swap_all(buckets.as_mut_slice());
+        both.swap_all();
     }
     for _ in 0..150 {
-        kinds.note(step(
-            rt,
-            heap,
-            &mut chance,
-            &mut envelope,
-            &mut buckets,
-            &mut shares,
-        )?);
+        told.push(both.step(rt, &mut chance)?)?;
     }
     Ok(())
 }
 
-fn agree<B: Bucket>(rt: &impl Abort, heap: Global) -> Result<(), Fail> {
-    let mut kinds = Kinds {
-        green: 0,
-        yellow: 0,
-        red: 0,
-        others: 0,
-        refused: [0; 5],
-    };
+fn agree<B: Bucket>(rt: &(impl Abort + AllocGlobal)) -> Result<(), Fail> {
+    let mut told = Vec::new(rt.alloc());
     for seed in 0..500 {
-        sequence::<B>(rt, heap, seed, &mut kinds)?;
+        sequence::<B>(rt, seed, &mut told)?;
     }
-    assert!(rt; kinds.green > 5_000 && kinds.yellow > 5_000 && kinds.red > 5_000);
-    assert!(rt; kinds.others > 5_000 && kinds.refused[0] > 1_000 && kinds.refused[1] > 1_000);
-    assert!(rt; kinds.refused[2] > 1_000 && kinds.refused[3] > 300 && kinds.refused[4] > 300);
+    let least = [
+        (Ok(Told::Colour(Colour::Green)), 5_000),
+        (Ok(Told::Colour(Colour::Yellow)), 5_000),
+        (Ok(Told::Colour(Colour::Red)), 5_000),
+        (Err(Cause::Buckets), 1_000),
+        (Err(Cause::NoTokens), 1_000),
+        (Err(Cause::Rank), 1_000),
+        (Err(Cause::BeforeLatest), 300),
+        (Err(Cause::AfterDayEnd), 300),
+    ];
+    assert_came(rt, told.as_slice(), &least);
+    let others = told
+        .iter()
+        .filter(|one| matches!(one, Ok(Told::Done | Told::Counts { .. })));
+    assert!(rt; others.count() > 5_000);
     Ok(())
 }
 
 #[test]
 fn counting_buckets_agree_with_pouring(rt: HostRuntime) -> Result<(), Fail> {
-    agree::<CountingBucket>(&rt, rt.alloc())
+    agree::<CountingBucket>(&rt)
 }
 
 #[test]
 fn deficit_buckets_agree_with_pouring(rt: HostRuntime) -> Result<(), Fail> {
-    agree::<DeficitBucket>(&rt, rt.alloc())
+    agree::<DeficitBucket>(&rt)
 }

@@ -1,59 +1,48 @@
 // Drafts against their rules: they grow, and are opened and closed again.
+use crate::causes::Cause;
 use crate::chance::Chance;
+use crate::counted::assert_came;
 use crate::limits::HIGHEST_RATE;
-use crate::rows::same_flow;
+use crate::profiles::Profile;
+use crate::rows::rates_of;
 use envelopes::draft::Draft;
 use envelopes::flow::{Flow, Supply};
 use envelopes::refusal::Refusal;
 use envelopes::row::Row;
-use std::alloc::Global;
+use std::alloc::{AllocGlobal, Global};
 use std::process::Abort;
 use std::test::Fail;
 
-fn number(refused: Result<(), Refusal>) -> u8 {
-    match refused {
-        Ok(()) => 0,
-        Err(refusal) => refusal.number(),
-    }
-}
-
-fn rates_of(flow: Flow) -> u128 {
-    u128::from(flow.green.rate).saturating_add(u128::from(flow.yellow.rate))
-}
-
-// Why a draft of these flows does not take one more, or 0.
-fn add_refusal(flows: &[Flow], cf0: bool, more: Flow) -> u8 {
-    let mut rates = rates_of(more);
-    let mut some_cf = more.cf;
-    for flow in flows {
-        rates = rates.saturating_add(rates_of(*flow));
-        some_cf = some_cf || flow.cf;
-    }
-    if flows.len() > 7 {
-        4
-    } else if cf0 && some_cf {
-        6
+// Whether a draft of this profile takes one flow more.
+fn check_flow(profile: &Profile, more: &Flow) -> Result<(), Cause> {
+    let flows = profile.flows.iter();
+    let rates = flows
+        .map(rates_of)
+        .fold(rates_of(more), u128::saturating_add);
+    let some_cf = more.cf || profile.flows.iter().any(|flow| flow.cf);
+    if profile.flows.len() > 7 {
+        Err(Cause::NinthFlow)
+    } else if profile.cf0 && some_cf {
+        Err(Cause::BothFlags)
     } else if rates > u128::from(HIGHEST_RATE) {
-        5
+        Err(Cause::SumOfRates)
     } else {
-        0
+        Ok(())
     }
 }
 
-fn cf0_refusal(flows: &[Flow], cf0: bool) -> u8 {
-    for flow in flows {
-        if cf0 && flow.cf {
-            return 6;
-        }
+// Whether CF0 of a draft of this profile may be set so.
+fn check_cf0(profile: &Profile, cf0: bool) -> Result<(), Cause> {
+    if cf0 && profile.flows.iter().any(|flow| flow.cf) {
+        return Err(Cause::BothFlags);
     }
-    0
+    Ok(())
 }
 
 fn any_flow(chance: &mut Chance) -> Flow {
     let rates = [0, 1, 1_000, 12_500_000, 12_500_000, 50_000_000, 99_999_999];
-    let rate = chance.pick(&rates);
     let green = Supply {
-        rate,
+        rate: chance.pick(&rates),
         maximum: None,
         volume: chance.between(0, 1_000),
     };
@@ -66,94 +55,95 @@ fn any_flow(chance: &mut Chance) -> Flow {
     Flow { green, yellow, cf }
 }
 
-fn same_flows(rows: &[Row], flows: &[Flow]) -> bool {
-    let mut same = rows.len() == flows.len();
-    for (row, flow) in rows.iter().zip(flows.iter()) {
-        same = same && same_flow(row.flow(), *flow);
+// The draft is of this profile.
+fn assert_is(rt: &impl Abort, draft: &Draft, profile: &Profile) {
+    let flows = draft.rows().iter().map(|row| row.flow());
+    assert!(rt; flows.eq(profile.flows.iter().copied()));
+    assert_eq!(rt; draft.cf0(), profile.cf0);
+}
+
+// A draft, and the profile that it should be of.
+#[derive(Drop)]
+struct Growing {
+    draft: Draft,
+    profile: Profile,
+}
+
+impl Growing {
+    fn new(heap: Global, first: Flow) -> Result<Growing, Fail> {
+        let mut flows = Vec::new(heap);
+        flows.push(first)?;
+        Ok(Growing {
+            draft: Draft::new(Row::new(first)?),
+            profile: Profile { flows, cf0: false },
+        })
     }
-    same
-}
 
-fn draft_is(rt: &impl Abort, draft: &Draft, flows: &[Flow], cf0: bool) {
-    assert!(rt; same_flows(draft.rows(), flows) && draft.cf0() == cf0);
-}
-
-// Adds a flow. Answers why it was refused, or 0.
-fn add(
-    rt: &impl Abort,
-    chance: &mut Chance,
-    draft: &mut Draft,
-    flows: &mut Vec<Flow>,
-    cf0: bool,
-) -> Result<u8, Fail> {
-    let flow = any_flow(chance);
-    let expected = add_refusal(flows.as_slice(), cf0, flow);
-    assert_eq!(rt; number(draft.add(Row::new(flow)?)), expected);
-    if expected == 0 {
-        flows.push(flow)?;
-    }
-    draft_is(rt, draft, flows.as_slice(), cf0);
-    Ok(expected)
-}
-
-// Sets CF0. Answers why it was refused, or 0.
-fn set(
-    rt: &impl Abort,
-    draft: &mut Draft,
-    flows: &[Flow],
-    to: bool,
-    cf0: &mut bool,
-) -> Result<u8, Fail> {
-    let expected = cf0_refusal(flows, to);
-    assert_eq!(rt; number(draft.set_cf0(to)), expected);
-    if expected == 0 {
-        *cf0 = to;
-    }
-    draft_is(rt, draft, flows, *cf0);
-    Ok(expected)
-}
-
-fn change(
-    rt: &impl Abort,
-    chance: &mut Chance,
-    draft: &mut Draft,
-    flows: &mut Vec<Flow>,
-    cf0: &mut bool,
-) -> Result<u8, Fail> {
-    let to = chance.one_in(2);
-    if chance.one_in(4) {
-        set(rt, draft, flows.as_slice(), to, cf0)
-    } else {
-        add(rt, chance, draft, flows, *cf0)
-    }
-}
-
-// Adds up how often refusals 4, 5 and 6 came.
-fn grow_draft(rt: &impl Abort, heap: Global, seed: u64, came: &mut [u64; 3]) -> Result<(), Fail> {
-    let mut chance = Chance::new(seed);
-    let first = any_flow(&mut chance);
-    let mut draft = Draft::new(Row::new(first)?);
-    let mut flows = Vec::new(heap);
-    flows.push(first)?;
-    let mut cf0 = false;
-    for _ in 0..20 {
-        match change(rt, &mut chance, &mut draft, &mut flows, &mut cf0)? {
-            4 => came[0] = came[0].saturating_add(1),
-            5 => came[1] = came[1].saturating_add(1),
-            6 => came[2] = came[2].saturating_add(1),
-            _ => {}
+    fn add(&mut self, rt: &impl Abort, flow: Flow) -> Result<Result<(), Cause>, Fail> {
+        let expected = check_flow(&self.profile, &flow);
+        let told = self.draft.add(Row::new(flow)?);
+        assert_eq!(rt;
+            told.map_err(Refusal::number),
+            expected.map_err(Cause::number)
+        );
+        if expected.is_ok() {
+            self.profile.flows.push(flow)?;
         }
+        Ok(expected)
     }
-    draft_is(rt, &draft.open().close(), flows.as_slice(), cf0);
+
+    fn set_cf0(&mut self, rt: &impl Abort, cf0: bool) -> Result<(), Cause> {
+        let expected = check_cf0(&self.profile, cf0);
+        let told = self.draft.set_cf0(cf0);
+        assert_eq!(rt;
+            told.map_err(Refusal::number),
+            expected.map_err(Cause::number)
+        );
+        if expected.is_ok() {
+            self.profile.cf0 = cf0;
+        }
+        expected
+    }
+
+    fn change(&mut self, rt: &impl Abort, chance: &mut Chance) -> Result<Result<(), Cause>, Fail> {
+        let cf0 = chance.one_in(2);
+        let expected = if chance.one_in(4) {
+            self.set_cf0(rt, cf0)
+        } else {
+            self.add(rt, any_flow(chance))?
+        };
+        assert_is(rt, &self.draft, &self.profile);
+        Ok(expected)
+    }
+}
+
+// Notes what was told.
+fn grow_draft(
+    rt: &(impl Abort + AllocGlobal),
+    seed: u64,
+    told: &mut Vec<Result<(), Cause>>,
+) -> Result<(), Fail> {
+    let mut chance = Chance::new(seed);
+    let mut growing = Growing::new(rt.alloc(), any_flow(&mut chance))?;
+    for _ in 0..20 {
+        told.push(growing.change(rt, &mut chance)?)?;
+    }
+    let Growing { draft, profile } = growing;
+    assert_is(rt, &draft.open().close(), &profile);
     Ok(())
 }
 
 #[test]
 fn drafts_grow_by_the_rules(rt: HostRuntime) -> Result<(), Fail> {
-    let mut came = [0u64; 3];
+    let mut told = Vec::new(rt.alloc());
     for seed in 0..2_000 {
-        grow_draft(&rt, rt.alloc(), seed, &mut came)?;
+        grow_draft(&rt, seed, &mut told)?;
     }
-    assert!(rt; came[0] > 1_000 && came[1] > 1_000 && came[2] > 1_000);
+    let least = [
+        (Err(Cause::NinthFlow), 1_000),
+        (Err(Cause::SumOfRates), 1_000),
+        (Err(Cause::BothFlags), 1_000),
+    ];
+    assert_came(&rt, told.as_slice(), &least);
     Ok(())
 }

@@ -1,99 +1,79 @@
 // What an envelope declares in a run of accepted calls, and what its buckets hold after each.
-use crate::any_calls::{any_call, held};
+use crate::any_calls::any_call;
 use crate::chance::Chance;
-use crate::envelope_calls::{Call, Told, put};
+use crate::envelope_calls::{Call, Told};
+use crate::opened::Opened;
 use envelopes::colour::{Colour, Request};
-use envelopes::envelope::Envelope;
 use std::alloc::{AllocError, Global};
 use tokens::bucket::Bucket;
 
-// An accepted call: what it declared, and the latest moment and the counts after it.
+// An accepted call, what it told, and the latest moment and the counts after it.
 #[derive(Drop)]
 pub struct Entry {
-    pub filled: bool,
-    pub rank: u8,
-    pub green: u128,
-    pub yellow: u128,
-    pub latest: u128,
-    pub counts: Vec<u128>,
-    pub total: u128,
-}
-
-fn accepted<B: Bucket>(
-    heap: Global,
-    latest: u64,
-    buckets: &[B],
     call: Call,
-) -> Result<Entry, AllocError> {
-    let mut counts = Vec::new(heap);
-    let mut total = 0u128;
-    for bucket in buckets {
-        let count = u128::from(bucket.count());
-        counts.push(count)?;
-        total = total.saturating_add(count);
-    }
-    Ok(Entry {
-        filled: matches!(call, Call::Fill),
-        rank: 0,
-        green: 0,
-        yellow: 0,
-        latest: u128::from(latest),
-        counts,
-        total,
-    })
+    told: Told,
+    pub latest: u64,
+    pub counts: Vec<u64>,
 }
 
-// Writes down what a request was declared.
-fn declare(entry: &mut Entry, call: Call, told: Told) {
-    if let Call::Judge(request) = call {
-        let tokens = u128::from(request.tokens);
-        entry.rank = request.rank;
-        match told {
-            Told::Colour(Colour::Green) => entry.green = tokens,
-            Told::Colour(Colour::Yellow) => entry.yellow = tokens,
-            _ => {}
+impl Entry {
+    pub fn is_fill(&self) -> bool {
+        matches!(self.call, Call::Fill)
+    }
+
+    // The request and its colour, if the call was one.
+    pub fn declared(&self) -> Option<(Request, Colour)> {
+        match (self.call, self.told) {
+            (Call::Judge(request), Told::Colour(colour)) => Some((request, colour)),
+            _ => None,
         }
     }
 }
 
-// A request for all the whole tokens that one of the flow's buckets holds.
-fn whole<B: Bucket>(buckets: &[B], call: Call) -> Call {
-    match call {
-        Call::Judge(request) => {
-            let (green, yellow) = held(buckets, request.rank);
-            let asked = if green > 0 {
-                Colour::Green
-            } else {
-                Colour::Yellow
-            };
-            let tokens = if green > 0 { green } else { yellow.max(1) };
-            Call::Judge(Request {
-                tokens: u32::try_from(tokens).unwrap_or(1),
-                moment: request.moment,
-                asked,
-                rank: request.rank,
-            })
-        }
-        _ => call,
+// How many tokens requests are for: any number, or all the whole tokens that one of the flow's buckets holds.
+#[derive(Clone, Copy)]
+pub enum Asking {
+    Any,
+    All,
+}
+
+// A request for all the whole tokens that one of the flow's buckets holds, the green one if it holds any.
+fn for_all<B: Bucket>(opened: &Opened<B>, request: Request) -> Request {
+    let (tokens, asked) = match opened.held(request.rank) {
+        (0, yellow) => (yellow.max(1), Colour::Yellow),
+        (green, _) => (green, Colour::Green),
+    };
+    Request {
+        tokens: u32::try_from(tokens).unwrap_or(1),
+        asked,
+        ..request
     }
 }
 
-// The accepted ones of some pseudo-random calls; where `greedy` is set, requests take all that they can.
+// The accepted ones of some pseudo-random calls.
 pub fn run<B: Bucket>(
     heap: Global,
     chance: &mut Chance,
-    envelope: &mut Envelope,
-    buckets: &mut [B],
-    greedy: bool,
+    opened: &mut Opened<B>,
+    asking: Asking,
 ) -> Result<Vec<Entry>, AllocError> {
     let mut entries = Vec::new(heap);
     for _ in 0..80 {
-        let any = any_call(chance, buckets, envelope.latest());
-        let call = if greedy { whole(buckets, any) } else { any };
-        if let Ok(told) = put(envelope, buckets, call) {
-            let mut entry = accepted(heap, envelope.latest(), buckets, call)?;
-            declare(&mut entry, call, told);
-            entries.push(entry)?;
+        let call = match (asking, any_call(chance, opened)) {
+            (Asking::All, Call::Judge(request)) => Call::Judge(for_all(opened, request)),
+            (_, call) => call,
+        };
+        if let Ok(told) = opened.put(call) {
+            entries.push(Entry {
+                call,
+                told,
+                latest: opened.latest(),
+                counts: opened
+                    .buckets
+                    .iter()
+                    .map(|bucket| bucket.count())
+                    .collect(heap)?,
+            })?;
         }
     }
     Ok(entries)

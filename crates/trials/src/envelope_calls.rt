@@ -16,17 +16,11 @@ pub enum Call {
 pub enum Told {
     Done,
     Colour(Colour),
-    Counts(u128, u128),
+    Counts { green: u128, yellow: u128 },
 }
 
-fn numbered(refused: Result<Told, Refusal>) -> Result<Told, u8> {
-    match refused {
-        Ok(told) => Ok(told),
-        Err(refusal) => Err(refusal.number()),
-    }
-}
-
-fn answer<B: Bucket>(
+// What the library tells.
+pub fn put<B: Bucket>(
     envelope: &mut Envelope,
     buckets: &mut [B],
     call: Call,
@@ -43,12 +37,10 @@ fn answer<B: Bucket>(
         }
         Call::Read(rank) => {
             let (green, yellow) = envelope.read(buckets, rank)?;
-            Ok(Told::Counts(u128::from(green), u128::from(yellow)))
+            Ok(Told::Counts {
+                green: u128::from(green),
+                yellow: u128::from(yellow),
+            })
         }
     }
-}
-
-// What the library tells: an answer, or the number of its refusal.
-pub fn put<B: Bucket>(envelope: &mut Envelope, buckets: &mut [B], call: Call) -> Result<Told, u8> {
-    numbered(answer(envelope, buckets, call))
 }

@@ -1,15 +1,19 @@
 // Worked figures, upon both kinds of bucket.
-use crate::envelope_calls::{Call, Told, put};
-use crate::profiles::{make_buckets, open};
+use crate::envelope_calls::{Call, Told};
+use crate::opened::Opened;
+use crate::profiles::Profile;
 use envelopes::colour::{Colour, Request};
-use envelopes::envelope::Envelope;
 use envelopes::flow::{Flow, Supply};
-use std::alloc::Global;
+use envelopes::refusal::Refusal;
+use std::alloc::AllocGlobal;
 use std::process::Abort;
 use std::test::Fail;
 use tokens::bucket::Bucket;
 use tokens::counting::CountingBucket;
 use tokens::deficit::DeficitBucket;
+
+// What a call tells, or the number under which customers know its refusal.
+type Figure = Result<Told, u8>;
 
 const NOTHING: Supply = Supply {
     rate: 0,
@@ -17,17 +21,17 @@ const NOTHING: Supply = Supply {
     volume: 0,
 };
 
-const GREEN: Result<Told, u8> = Ok(Told::Colour(Colour::Green));
+const GREEN: Figure = Ok(Told::Colour(Colour::Green));
 
-const YELLOW: Result<Told, u8> = Ok(Told::Colour(Colour::Yellow));
+const YELLOW: Figure = Ok(Told::Colour(Colour::Yellow));
 
-const RED: Result<Told, u8> = Ok(Told::Colour(Colour::Red));
+const RED: Figure = Ok(Told::Colour(Colour::Red));
 
 fn supply(rate: u64, volume: u64) -> Supply {
     Supply {
         rate,
-        maximum: None,
         volume,
+        ..NOTHING
     }
 }
 
@@ -56,41 +60,30 @@ fn yellow(moment: u64, rank: u8, tokens: u32) -> Call {
     asks(Colour::Yellow, moment, rank, tokens)
 }
 
-fn tells<B: Bucket>(
-    rt: &impl Abort,
-    envelope: &mut Envelope,
-    buckets: &mut [B],
-    list: &[(Call, Result<Told, u8>)],
-) {
-    for (call, told) in list {
-        assert_eq!(rt; put(envelope, buckets, *call), *told);
-    }
-}
-
-// What an envelope of these flows tells, once it is open and filled.
+// What an envelope of the profile tells, once it is open and filled.
 fn figure<B: Bucket>(
-    rt: &impl Abort,
-    heap: Global,
-    flows: &[Flow],
-    cf0: bool,
-    list: &[(Call, Result<Told, u8>)],
+    rt: &(impl Abort + AllocGlobal),
+    profile: &Profile,
+    list: &[(Call, Figure)],
 ) -> Result<(), Fail> {
-    let mut envelope = open(flows, cf0)?;
-    let mut buckets = make_buckets::<B>(heap, flows)?;
-    envelope.fill(buckets.as_mut_slice())?;
-    tells(rt, &mut envelope, buckets.as_mut_slice(), list);
+    let mut opened = Opened::<B>::new(rt.alloc(), profile)?;
+    opened.fill()?;
+    for (call, told) in list {
+        assert_eq!(rt; opened.put(*call).map_err(Refusal::number), *told);
+    }
     Ok(())
 }
 
 fn in_both_kinds(
-    rt: &impl Abort,
-    heap: Global,
+    rt: &(impl Abort + AllocGlobal),
     flows: &[Flow],
     cf0: bool,
-    list: &[(Call, Result<Told, u8>)],
+    list: &[(Call, Figure)],
 ) -> Result<(), Fail> {
-    figure::<CountingBucket>(rt, heap, flows, cf0, list)?;
-    figure::<DeficitBucket>(rt, heap, flows, cf0, list)
+    let flows = flows.to_vec(rt.alloc())?;
+    let profile = Profile { flows, cf0 };
+    figure::<CountingBucket>(rt, &profile, list)?;
+    figure::<DeficitBucket>(rt, &profile, list)
 }
 
 #[test]
@@ -99,6 +92,10 @@ fn six_records(rt: HostRuntime) -> Result<(), Fail> {
         flow(supply(0, 1_000), supply(500, 2_000)),
         flow(supply(1_000, 1_500), NOTHING),
     ];
+    let counts = Told::Counts {
+        green: 500_000_000,
+        yellow: 1_498_000_000,
+    };
     let list = [
         (green(0, 2, 1_500), GREEN),
         (green(999, 2, 1), RED),
@@ -106,9 +103,9 @@ fn six_records(rt: HostRuntime) -> Result<(), Fail> {
         (green(1_000, 1, 1_001), YELLOW),
         (green(1_000, 1, 1_000), GREEN),
         (green(2_001_000, 1, 501), YELLOW),
-        (Call::Read(1), Ok(Told::Counts(500_000_000, 1_498_000_000))),
+        (Call::Read(1), Ok(counts)),
     ];
-    in_both_kinds(&rt, rt.alloc(), &flows, false, &list)
+    in_both_kinds(&rt, &flows, false, &list)
 }
 
 // In one step of two seconds rank 1 gets 1,000 tokens back; with a step halfway it does not.
@@ -125,14 +122,14 @@ fn a_maximum_and_a_step_halfway(rt: HostRuntime) -> Result<(), Fail> {
         (green(0, 2, 1_000), GREEN),
         (green(2_000_000, 1, 1_000), GREEN),
     ];
-    in_both_kinds(&rt, rt.alloc(), &flows, false, &one_step)?;
+    in_both_kinds(&rt, &flows, false, &one_step)?;
     let two_steps = [
         (green(0, 1, 1_000), GREEN),
         (green(0, 2, 1_000), GREEN),
         (Call::Advance(1_000_000), Ok(Told::Done)),
         (green(2_000_000, 1, 1_000), RED),
     ];
-    in_both_kinds(&rt, rt.alloc(), &flows, false, &two_steps)
+    in_both_kinds(&rt, &flows, false, &two_steps)
 }
 
 #[test]
@@ -145,12 +142,12 @@ fn green_overflow_of_rank_1_to_the_highest_yellow(rt: HostRuntime) -> Result<(),
         (yellow(0, 2, 1_000), YELLOW),
         (yellow(1_000_000, 2, 100), YELLOW),
     ];
-    in_both_kinds(&rt, rt.alloc(), &flows, true, &covered)?;
+    in_both_kinds(&rt, &flows, true, &covered)?;
     let too_much = [
         (yellow(0, 2, 1_000), YELLOW),
         (yellow(1_000_000, 2, 101), RED),
     ];
-    in_both_kinds(&rt, rt.alloc(), &flows, true, &too_much)
+    in_both_kinds(&rt, &flows, true, &too_much)
 }
 
 #[test]
@@ -164,5 +161,5 @@ fn end_of_the_day(rt: HostRuntime) -> Result<(), Fail> {
         (Call::Advance(86_400_000_001), Err(11)),
         (Call::Advance(86_399_999_999), Err(10)),
     ];
-    in_both_kinds(&rt, rt.alloc(), &flows, false, &list)
+    in_both_kinds(&rt, &flows, false, &list)
 }

@@ -1,179 +1,132 @@
 // The flows below a rank do not change the colours from it up: two envelopes of one profile, each over its own kind of
 // bucket, with the same requests from a rank up and with other requests below it.
-use crate::below::{go_on, later, shared};
+use crate::below::{Below, Moments, later};
 use crate::chance::Chance;
-use crate::profiles::{any_flows, make_buckets, open};
-use envelopes::colour::{Colour, Request};
-use envelopes::envelope::Envelope;
-use envelopes::flow::Flow;
+use crate::opened::Opened;
+use crate::profiles::Profile;
+use envelopes::colour::Colour;
 use envelopes::refusal::Refusal;
-use std::alloc::{AllocError, Global};
+use std::alloc::{AllocGlobal, Global};
 use std::process::Abort;
 use std::test::Fail;
 use tokens::counting::CountingBucket;
 use tokens::deficit::DeficitBucket;
 
-// How often the shared requests were Green, Yellow in both, and of two colours.
+// What the two told of one request.
 #[derive(Clone, Copy)]
-struct Seen {
-    green: u64,
-    yellow: u64,
-    parted: u64,
-}
-
-// Green in both or in neither, and of one colour where CF0 is 0.
-fn alike(
-    rt: &impl Abort,
-    cf0: bool,
+struct Answers {
     one: Result<Colour, Refusal>,
     other: Result<Colour, Refusal>,
-    seen: &mut Seen,
-) {
-    assert_eq!(rt; one == Ok(Colour::Green), other == Ok(Colour::Green));
-    if !cf0 {
-        assert_eq!(rt; one, other);
-    }
-    if one != other {
-        seen.parted = seen.parted.saturating_add(1);
-    } else if one == Ok(Colour::Green) {
-        seen.green = seen.green.saturating_add(1);
-    } else if one == Ok(Colour::Yellow) {
-        seen.yellow = seen.yellow.saturating_add(1);
-    }
 }
 
-fn without_maxima(heap: Global, flows: &[Flow], below: u8) -> Result<Vec<Flow>, AllocError> {
-    let mut changed = Vec::new(heap);
-    for (index, flow) in flows.iter().enumerate() {
-        let mut flow = *flow;
-        if index >= usize::from(below) {
-            flow.green.maximum = None;
-            flow.yellow.maximum = None;
+impl Answers {
+    fn are_both(&self, colour: Colour) -> bool {
+        self.one == Ok(colour) && self.other == Ok(colour)
+    }
+
+    fn part(&self) -> bool {
+        self.one != self.other
+    }
+
+    // Green in both or in neither, and of one colour where CF0 is 0.
+    fn assert_alike(&self, rt: &impl Abort, cf0: bool) {
+        assert_eq!(rt;
+            self.one == Ok(Colour::Green),
+            self.other == Ok(Colour::Green)
+        );
+        if !cf0 {
+            assert_eq!(rt; self.one, self.other);
         }
-        changed.push(flow)?;
     }
-    Ok(changed)
 }
 
-// One request to both envelopes, at this moment.
-fn ask_both(
-    rt: &impl Abort,
-    request: Request,
-    one: &mut Envelope,
-    counting: &mut [CountingBucket],
-    other: &mut Envelope,
-    deficit: &mut [DeficitBucket],
-    cf0: bool,
-    seen: &mut Seen,
-) {
-    let first = one.judge(counting, request);
-    let second = other.judge(deficit, request);
-    alike(rt, cf0, first, second, seen);
+// The two envelopes.
+#[derive(Drop)]
+struct Two {
+    one: Opened<CountingBucket>,
+    other: Opened<DeficitBucket>,
 }
 
-// What two lists have in common.
-#[derive(Clone, Copy)]
-struct Plan {
-    cf0: bool,
-    below: u8,
-    free: bool,
+impl Two {
+    fn filled(heap: Global, profile: &Profile) -> Result<Two, Fail> {
+        let mut one = Opened::new(heap, profile)?;
+        let mut other = Opened::new(heap, profile)?;
+        one.fill()?;
+        other.fill()?;
+        Ok(Two { one, other })
+    }
+
+    // The flows below go on, and then there may be a request from above them.
+    fn step(&mut self, chance: &mut Chance, below: Below, moment: u64) -> Option<Answers> {
+        below.go_on(chance, &mut self.one, moment);
+        below.go_on(chance, &mut self.other, moment);
+        if chance.one_in(4) {
+            return None;
+        }
+        let request = below.above(chance, &self.one, moment);
+        Some(Answers {
+            one: self.one.judge(request),
+            other: self.other.judge(request),
+        })
+    }
 }
 
-fn many_moments(
-    rt: &impl Abort,
-    chance: &mut Chance,
-    plan: Plan,
-    one: &mut Envelope,
-    counting: &mut [CountingBucket],
-    other: &mut Envelope,
-    deficit: &mut [DeficitBucket],
-    seen: &mut Seen,
-) {
+fn lift_maxima(profile: &mut Profile, below: u8) {
+    for flow in profile.flows.iter_mut().skip(usize::from(below)) {
+        flow.green.maximum = None;
+        flow.yellow.maximum = None;
+    }
+}
+
+// Notes what the two told.
+fn sequence(
+    rt: &(impl Abort + AllocGlobal),
+    seed: u64,
+    moments: Moments,
+    told: &mut Vec<Answers>,
+) -> Result<(), Fail> {
+    let mut chance = Chance::new(seed);
+    let mut profile = Profile::any(rt.alloc(), &mut chance)?;
+    let rank = chance.rank(0, profile.highest().saturating_sub(1));
+    if matches!(moments, Moments::Own) {
+        lift_maxima(&mut profile, rank);
+    }
+    let mut two = Two::filled(rt.alloc(), &profile)?;
     let mut moment = 0u64;
     for _ in 0..80 {
-        moment = later(chance, moment);
-        go_on(chance, one, counting, plan.below, moment, plan.free);
-        go_on(chance, other, deficit, plan.below, moment, plan.free);
-        if !chance.one_in(4) {
-            let request = shared(chance, counting, plan.below, moment);
-            ask_both(rt, request, one, counting, other, deficit, plan.cf0, seen);
+        moment = later(&mut chance, moment);
+        if let Some(answers) = two.step(&mut chance, Below { rank, moments }, moment) {
+            answers.assert_alike(rt, profile.cf0);
+            told.push(answers)?;
         }
     }
-}
-
-fn two_lists(
-    rt: &impl Abort,
-    heap: Global,
-    chance: &mut Chance,
-    flows: &[Flow],
-    plan: Plan,
-    seen: &mut Seen,
-) -> Result<(), Fail> {
-    let mut one = open(flows, plan.cf0)?;
-    let mut other = open(flows, plan.cf0)?;
-    let mut counting = make_buckets::<CountingBucket>(heap, flows)?;
-    let mut deficit = make_buckets::<DeficitBucket>(heap, flows)?;
-    one.fill(counting.as_mut_slice())?;
-    other.fill(deficit.as_mut_slice())?;
-    many_moments(
-        rt,
-        chance,
-        plan,
-        &mut one,
-        counting.as_mut_slice(),
-        &mut other,
-        deficit.as_mut_slice(),
-        seen,
-    );
     Ok(())
 }
 
-fn sequence(
-    rt: &impl Abort,
-    heap: Global,
-    seed: u64,
-    free: bool,
-    seen: &mut Seen,
-) -> Result<(), Fail> {
-    let mut chance = Chance::new(seed);
-    let cf0 = chance.one_in(3);
-    let any = any_flows(heap, &mut chance, cf0)?;
-    let highest = any.len() as u64;
-    let below = u8::try_from(chance.between(0, highest.saturating_sub(1))).unwrap_or(0);
-    let flows = if free {
-        without_maxima(heap, any.as_slice(), below)?
-    } else {
-        any
-    };
-    two_lists(
-        rt,
-        heap,
-        &mut chance,
-        flows.as_slice(),
-        Plan { cf0, below, free },
-        seen,
-    )
-}
-
-fn sequences(rt: &impl Abort, heap: Global, free: bool) -> Result<(), Fail> {
-    let mut seen = Seen {
-        green: 0,
-        yellow: 0,
-        parted: 0,
-    };
+fn sequences(rt: &(impl Abort + AllocGlobal), moments: Moments) -> Result<(), Fail> {
+    let mut told = Vec::new(rt.alloc());
     for seed in 0..1_000 {
-        sequence(rt, heap, seed, free, &mut seen)?;
+        sequence(rt, seed, moments, &mut told)?;
     }
-    assert!(rt; seen.green > 10_000 && seen.yellow > 10_000 && seen.parted > 20);
+    let green = told
+        .iter()
+        .filter(|answers| answers.are_both(Colour::Green))
+        .count();
+    let yellow = told
+        .iter()
+        .filter(|answers| answers.are_both(Colour::Yellow))
+        .count();
+    let parted = told.iter().filter(|answers| answers.part()).count();
+    assert!(rt; green > 10_000 && yellow > 10_000 && parted > 20);
     Ok(())
 }
 
 #[test]
 fn lower_flows_do_not_change_colours_above(rt: HostRuntime) -> Result<(), Fail> {
-    sequences(&rt, rt.alloc(), false)
+    sequences(&rt, Moments::Shared)
 }
 
 #[test]
 fn without_maxima_other_moments_do_not_matter(rt: HostRuntime) -> Result<(), Fail> {
-    sequences(&rt, rt.alloc(), true)
+    sequences(&rt, Moments::Own)
 }

@@ -10,9 +10,15 @@ mod bounds;
 #[cfg(test)]
 mod buckets;
 #[cfg(test)]
+mod causes;
+#[cfg(test)]
 mod chance;
 #[cfg(test)]
 mod colours;
+#[cfg(test)]
+mod contents;
+#[cfg(test)]
+mod counted;
 #[cfg(test)]
 mod drafts;
 #[cfg(test)]
@@ -29,6 +35,8 @@ mod limits;
 mod lone_meter;
 #[cfg(test)]
 mod meters;
+#[cfg(test)]
+mod opened;
 #[cfg(test)]
 mod places;
 #[cfg(test)]

@@ -1,8 +1,10 @@
 // The three forms of meter against the meter by windows.
+use crate::causes::Cause;
 use crate::chance::Chance;
+use crate::counted::assert_came;
 use crate::limits::{DAY_END, GRAINS_PER_TOKEN};
 use crate::windows::Windows;
-use std::alloc::Global;
+use std::alloc::AllocGlobal;
 use std::process::Abort;
 use std::test::Fail;
 use tokens::calls::{Answer, Call, alike, put, worked_figure};
@@ -16,25 +18,38 @@ const RATES: [u64; 6] = [1, 2, 1_000, 125_000, 99_999_999, 100_000_000];
 
 const BURSTS: [u64; 6] = [1, 2, 1_500, 65_536, 999_999_999, 1_000_000_000];
 
-// How often each kind of answer came.
+// A meter in each of the three forms.
 #[derive(Clone, Copy)]
-struct Kinds {
-    yes: u64,
-    no: u64,
-    moved: u64,
-    refused: [u64; 3],
+struct Forms {
+    token: TokenBucket,
+    schedule: VirtualScheduling,
+    leaky: LeakyBucket,
 }
 
-impl Kinds {
-    fn note(&mut self, told: Result<Answer, u8>) {
-        match told {
-            Ok(Answer::Yes) => self.yes = self.yes.saturating_add(1),
-            Ok(Answer::No) => self.no = self.no.saturating_add(1),
-            Ok(Answer::Moved) => self.moved = self.moved.saturating_add(1),
-            Err(8) => self.refused[0] = self.refused[0].saturating_add(1),
-            Err(10) => self.refused[1] = self.refused[1].saturating_add(1),
-            Err(_) => self.refused[2] = self.refused[2].saturating_add(1),
-        }
+impl Forms {
+    fn new(rate: u64, burst: u64) -> Result<Forms, Refusal> {
+        Ok(Forms {
+            token: TokenBucket::new(rate, burst)?,
+            schedule: VirtualScheduling::new(rate, burst)?,
+            leaky: LeakyBucket::new(rate, burst)?,
+        })
+    }
+
+    // All three tell what is expected.
+    fn tell(&mut self, rt: &impl Abort, call: Call, expected: Result<Answer, Cause>) {
+        let expected = expected.map_err(Cause::number);
+        assert_eq!(rt;
+            put(&mut self.token, call).map_err(Refusal::number),
+            expected
+        );
+        assert_eq!(rt;
+            put(&mut self.schedule, call).map_err(Refusal::number),
+            expected
+        );
+        assert_eq!(rt;
+            put(&mut self.leaky, call).map_err(Refusal::number),
+            expected
+        );
     }
 }
 
@@ -96,15 +111,12 @@ fn any_call(chance: &mut Chance, windows: &Windows, rate: u64, burst: u64) -> Ca
     }
 }
 
-fn told<M: Meter>(meter: &mut M, call: Call) -> Result<Answer, u8> {
-    match put(meter, call) {
-        Ok(answer) => Ok(answer),
-        Err(refusal) => Err(refusal.number()),
-    }
-}
-
 // One sequence of calls upon all three forms and the meter by windows.
-fn sequence(rt: &impl Abort, heap: Global, seed: u64, kinds: &mut Kinds) -> Result<(), Fail> {
+fn sequence(
+    rt: &(impl Abort + AllocGlobal),
+    seed: u64,
+    told: &mut Vec<Result<Answer, Cause>>,
+) -> Result<(), Fail> {
     let mut chance = Chance::new(seed);
     let rate = if chance.one_in(4) {
         chance.between(1, 100_000_000)
@@ -116,35 +128,38 @@ fn sequence(rt: &impl Abort, heap: Global, seed: u64, kinds: &mut Kinds) -> Resu
     } else {
         chance.pick(&BURSTS)
     };
-    let mut windows = Windows::new(heap, rate, burst).ok_or("out of range")?;
-    let mut token = TokenBucket::new(rate, burst)?;
-    let mut schedule = VirtualScheduling::new(rate, burst)?;
-    let mut leaky = LeakyBucket::new(rate, burst)?;
+    let mut windows = Windows::new(rt.alloc(), rate, burst)?;
+    let mut forms = Forms::new(rate, burst)?;
     for _ in 0..150 {
         let call = any_call(&mut chance, &windows, rate, burst);
         let expected = windows.put(call)?;
-        kinds.note(expected);
-        assert_eq!(rt; told(&mut token, call), expected);
-        assert_eq!(rt; told(&mut schedule, call), expected);
-        assert_eq!(rt; told(&mut leaky, call), expected);
+        forms.tell(rt, call, expected);
+        told.push(expected)?;
     }
     Ok(())
 }
 
 #[test]
 fn three_forms_agree_with_windows(rt: HostRuntime) -> Result<(), Fail> {
-    let mut kinds = Kinds {
-        yes: 0,
-        no: 0,
-        moved: 0,
-        refused: [0; 3],
-    };
+    let mut told = Vec::new(rt.alloc());
     for seed in 0..600 {
-        sequence(&rt, rt.alloc(), seed, &mut kinds)?;
+        sequence(&rt, seed, &mut told)?;
     }
-    assert!(rt; kinds.yes > 5_000 && kinds.no > 5_000 && kinds.moved > 1_000);
-    assert!(rt; kinds.refused[0] > 500 && kinds.refused[1] > 500 && kinds.refused[2] > 500);
+    let least = [
+        (Ok(Answer::Yes), 5_000),
+        (Ok(Answer::No), 5_000),
+        (Ok(Answer::Moved), 1_000),
+        (Err(Cause::NoTokens), 500),
+        (Err(Cause::BeforeLatest), 500),
+        (Err(Cause::AfterDayEnd), 500),
+    ];
+    assert_came(&rt, told.as_slice(), &least);
     Ok(())
+}
+
+// Whether a form takes a rate and a burst, or the number of its refusal.
+fn try_limits<M: Meter>(rate: u64, burst: u64) -> Result<(), u8> {
+    M::new(rate, burst).map(|_| ()).map_err(Refusal::number)
 }
 
 #[test]
@@ -163,13 +178,11 @@ fn rates_and_bursts_at_the_edges(rt: HostRuntime) {
     ];
     for rate in edges {
         for burst in edges {
-            let lawful = Windows::new(rt.alloc(), rate, burst).is_some();
-            assert_eq!(rt; TokenBucket::new(rate, burst).is_ok(), lawful);
-            assert_eq!(rt; VirtualScheduling::new(rate, burst).is_ok(), lawful);
-            assert_eq!(rt; LeakyBucket::new(rate, burst).is_ok(), lawful);
-            if let Err(refusal) = LeakyBucket::new(rate, burst) {
-                assert_eq!(rt; refusal.number(), 16);
-            }
+            let made = Windows::new(rt.alloc(), rate, burst).map(|_| ());
+            let expected = made.map_err(Cause::number);
+            assert_eq!(rt; try_limits::<TokenBucket>(rate, burst), expected);
+            assert_eq!(rt; try_limits::<VirtualScheduling>(rate, burst), expected);
+            assert_eq!(rt; try_limits::<LeakyBucket>(rate, burst), expected);
         }
     }
 }
@@ -177,13 +190,9 @@ fn rates_and_bursts_at_the_edges(rt: HostRuntime) {
 #[test]
 fn worked_figure_in_three_forms(rt: HostRuntime) -> Result<(), Fail> {
     let expected = [Answer::Yes, Answer::No, Answer::Yes, Answer::No];
-    let mut token = TokenBucket::new(1_000, 1_500)?;
-    let mut schedule = VirtualScheduling::new(1_000, 1_500)?;
-    let mut leaky = LeakyBucket::new(1_000, 1_500)?;
-    for (call, answer) in worked_figure().iter().zip(expected.iter()) {
-        assert_eq!(rt; told(&mut token, *call), Ok(*answer));
-        assert_eq!(rt; told(&mut schedule, *call), Ok(*answer));
-        assert_eq!(rt; told(&mut leaky, *call), Ok(*answer));
+    let mut forms = Forms::new(1_000, 1_500)?;
+    for (call, answer) in worked_figure().into_iter().zip(expected) {
+        forms.tell(&rt, call, Ok(answer));
     }
     Ok(())
 }
@@ -191,9 +200,11 @@ fn worked_figure_in_three_forms(rt: HostRuntime) -> Result<(), Fail> {
 #[test]
 fn meters_of_one_burst_are_alike_and_of_two_are_not(rt: HostRuntime) -> Result<(), Fail> {
     let calls = worked_figure();
-    let token = TokenBucket::new(1_000, 1_500)?;
-    let schedule = VirtualScheduling::new(1_000, 1_500)?;
-    let leaky = LeakyBucket::new(1_000, 1_500)?;
+    let Forms {
+        token,
+        schedule,
+        leaky,
+    } = Forms::new(1_000, 1_500)?;
     assert!(rt; alike(token, schedule, &calls));
     assert!(rt; alike(schedule, leaky, &calls));
     assert!(rt; alike(leaky, token, &calls));

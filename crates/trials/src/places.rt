@@ -1,4 +1,5 @@
 // The places of an envelope by pouring: a flow's green and yellow one, and where each runs on to.
+use crate::contents::Contents;
 use crate::limits::GRAINS_PER_TOKEN;
 use envelopes::flow::{Flow, Supply};
 
@@ -22,6 +23,13 @@ impl Place {
             held: volume,
             room: 0,
             next,
+        }
+    }
+
+    pub fn contents(&self) -> Contents {
+        Contents {
+            held: self.held,
+            volume: self.volume,
         }
     }
 
@@ -74,9 +82,5 @@ pub fn after_green(flow: Flow, rank: usize, highest: usize, cf0: bool) -> Option
 }
 
 pub fn after_yellow(rank: usize) -> Option<usize> {
-    if rank > 1 {
-        Some(yellow_of(rank.saturating_sub(1)))
-    } else {
-        None
-    }
+    (rank > 1).then_some(yellow_of(rank.saturating_sub(1)))
 }

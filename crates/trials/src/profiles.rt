@@ -1,31 +1,45 @@
-// Pseudo-random flows, and the envelope and the buckets of them.
+// Profiles: flows by rank, and CF0.
 use crate::chance::Chance;
 use crate::limits::HIGHEST_RATE;
 use envelopes::draft::Draft;
 use envelopes::envelope::Envelope;
 use envelopes::flow::{Flow, Supply};
-use envelopes::refusal::Refusal;
 use envelopes::row::Row;
 use std::alloc::{AllocError, Global};
 use std::test::Fail;
 use tokens::bucket::Bucket;
 
-const SMALL_RATES: [u64; 7] = [0, 0, 1, 10, 333, 1_000, 1_000];
+#[derive(Drop)]
+pub struct Profile {
+    pub flows: Vec<Flow>,
+    pub cf0: bool,
+}
 
-const RATES: [u64; 8] = [0, 0, 1, 1_000, 125_000, 999_999, 12_500_000, 100_000_000];
+// What rates and volumes are picked from.
+#[derive(Clone, Copy)]
+struct Sizes {
+    rates: &'static [u64],
+    volumes: &'static [u64],
+}
 
-const SMALL_VOLUMES: [u64; 7] = [0, 1, 10, 100, 1_000, 1_500, 2_000];
+const SMALL: Sizes = Sizes {
+    rates: &[0, 0, 1, 10, 333, 1_000, 1_000],
+    volumes: &[0, 1, 10, 100, 1_000, 1_500, 2_000],
+};
 
-const VOLUMES: [u64; 8] = [
-    0,
-    1,
-    1_500,
-    65_536,
-    1_000_000,
-    10_000_000,
-    999_999_999,
-    1_000_000_000,
-];
+const ALL: Sizes = Sizes {
+    rates: &[0, 0, 1, 1_000, 125_000, 999_999, 12_500_000, 100_000_000],
+    volumes: &[
+        0,
+        1,
+        1_500,
+        65_536,
+        1_000_000,
+        10_000_000,
+        999_999_999,
+        1_000_000_000,
+    ],
+};
 
 fn any_maximum(chance: &mut Chance, rate: u64) -> Option<u64> {
     let edges = [
@@ -42,14 +56,11 @@ fn any_maximum(chance: &mut Chance, rate: u64) -> Option<u64> {
     Some(chance.pick(&edges).min(HIGHEST_RATE))
 }
 
-// A supply whose rate is at most what is left.
-fn any_supply(chance: &mut Chance, small: bool, left: u64) -> Supply {
-    let (rate, volume) = if small {
-        (chance.pick(&SMALL_RATES), chance.pick(&SMALL_VOLUMES))
-    } else {
-        (chance.pick(&RATES), chance.pick(&VOLUMES))
-    };
-    let rate = rate.min(left);
+// A supply whose rate is at most what is left, which it takes.
+fn any_supply(chance: &mut Chance, sizes: Sizes, left: &mut u64) -> Supply {
+    let rate = chance.pick(sizes.rates).min(*left);
+    let volume = chance.pick(sizes.volumes);
+    *left = left.saturating_sub(rate);
     Supply {
         rate,
         maximum: any_maximum(chance, rate),
@@ -57,66 +68,46 @@ fn any_supply(chance: &mut Chance, small: bool, left: u64) -> Supply {
     }
 }
 
-// One to eight flows that a draft takes, where CF0 is as said.
-pub fn any_flows(heap: Global, chance: &mut Chance, cf0: bool) -> Result<Vec<Flow>, AllocError> {
-    let mut flows = Vec::new(heap);
-    let mut left = HIGHEST_RATE;
-    let small = !chance.one_in(3);
-    for _ in 0..chance.between(1, 8) {
-        let green = any_supply(chance, small, left);
-        left = left.saturating_sub(green.rate);
-        let yellow = any_supply(chance, small, left);
-        left = left.saturating_sub(yellow.rate);
-        let cf = !cf0 && chance.one_in(3);
-        flows.push(Flow { green, yellow, cf })?;
-    }
-    Ok(flows)
-}
-
-fn with_flow(draft: Option<Draft>, flow: Flow) -> Result<Draft, Refusal> {
-    let row = Row::new(flow)?;
-    match draft {
-        None => Ok(Draft::new(row)),
-        Some(mut draft) => {
-            draft.add(row)?;
-            Ok(draft)
+impl Profile {
+    // One to eight flows that a draft takes.
+    pub fn any(heap: Global, chance: &mut Chance) -> Result<Profile, AllocError> {
+        let cf0 = chance.one_in(3);
+        let sizes = if chance.one_in(3) { ALL } else { SMALL };
+        let mut left = HIGHEST_RATE;
+        let mut flows = Vec::new(heap);
+        for _ in 0..chance.between(1, 8) {
+            flows.push(Flow {
+                green: any_supply(chance, sizes, &mut left),
+                yellow: any_supply(chance, sizes, &mut left),
+                cf: !cf0 && chance.one_in(3),
+            })?;
         }
+        Ok(Profile { flows, cf0 })
     }
-}
 
-// The envelope of these flows, open.
-pub fn open(flows: &[Flow], cf0: bool) -> Result<Envelope, Fail> {
-    let mut draft = None;
-    for flow in flows {
-        draft = Some(with_flow(draft, *flow)?);
+    // The highest rank.
+    pub fn highest(&self) -> u8 {
+        u8::try_from(self.flows.len()).unwrap_or(u8::MAX)
     }
-    let Some(mut draft) = draft else {
-        return Err(Fail::new("no flow"));
-    };
-    draft.set_cf0(cf0)?;
-    Ok(draft.open())
-}
 
-// Full buckets of the flows, green ones first.
-pub fn make_buckets<B: Bucket>(heap: Global, flows: &[Flow]) -> Result<Vec<B>, AllocError> {
-    let mut buckets = Vec::new(heap);
-    for flow in flows {
-        buckets.push(B::make(u32::try_from(flow.green.volume).unwrap_or(0)))?;
+    // The envelope of the profile, open.
+    pub fn open(&self) -> Result<Envelope, Fail> {
+        let (first, others) = self.flows.split_first().ok_or("no flow")?;
+        let mut draft = Draft::new(Row::new(*first)?);
+        for flow in others {
+            draft.add(Row::new(*flow)?)?;
+        }
+        draft.set_cf0(self.cf0)?;
+        Ok(draft.open())
     }
-    for flow in flows {
-        buckets.push(B::make(u32::try_from(flow.yellow.volume).unwrap_or(0)))?;
-    }
-    Ok(buckets)
-}
 
-// A pseudo-random envelope with its flows, its CF0 and full buckets.
-pub fn set_up<B: Bucket>(
-    heap: Global,
-    chance: &mut Chance,
-) -> Result<(Vec<Flow>, bool, Envelope, Vec<B>), Fail> {
-    let cf0 = chance.one_in(3);
-    let flows = any_flows(heap, chance, cf0)?;
-    let buckets = make_buckets::<B>(heap, flows.as_slice())?;
-    let envelope = open(flows.as_slice(), cf0)?;
-    Ok((flows, cf0, envelope, buckets))
+    // Full buckets, green ones first.
+    pub fn make_buckets<B: Bucket>(&self, heap: Global) -> Result<Vec<B>, AllocError> {
+        let greens = self.flows.iter().map(|flow| flow.green);
+        let yellows = self.flows.iter().map(|flow| flow.yellow);
+        greens
+            .chain(yellows)
+            .map(|supply| B::make(u32::try_from(supply.volume).unwrap_or(0)))
+            .collect(heap)
+    }
 }

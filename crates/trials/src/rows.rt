@@ -1,22 +1,16 @@
 // Rows against their rules: flows at the limits.
+use crate::causes::Cause;
 use crate::chance::Chance;
+use crate::counted::assert_came;
 use crate::limits::{HIGHEST_RATE, LARGEST_VOLUME};
 use envelopes::flow::{Flow, Supply};
+use envelopes::refusal::Refusal;
 use envelopes::row::Row;
 use std::process::Abort;
-
-fn same_supply(one: Supply, other: Supply) -> bool {
-    one.rate == other.rate && one.maximum == other.maximum && one.volume == other.volume
-}
-
-pub fn same_flow(one: Flow, other: Flow) -> bool {
-    same_supply(one.green, other.green)
-        && same_supply(one.yellow, other.yellow)
-        && one.cf == other.cf
-}
+use std::test::Fail;
 
 fn edge_maximum(chance: &mut Chance, rate: u64) -> Option<u64> {
-    let edges = [
+    let maximum = chance.pick(&[
         rate,
         rate.saturating_add(1),
         rate.saturating_sub(1),
@@ -25,13 +19,8 @@ fn edge_maximum(chance: &mut Chance, rate: u64) -> Option<u64> {
         100_000_000,
         100_000_001,
         u64::MAX,
-    ];
-    let maximum = chance.pick(&edges);
-    if chance.one_in(3) {
-        Some(maximum)
-    } else {
-        None
-    }
+    ]);
+    chance.one_in(3).then_some(maximum)
 }
 
 fn edge_supply(chance: &mut Chance) -> Supply {
@@ -68,59 +57,58 @@ fn edge_supply(chance: &mut Chance) -> Supply {
     }
 }
 
-fn wrong_maximum(supply: Supply) -> bool {
-    match supply.maximum {
-        Some(maximum) => !(supply.rate..=HIGHEST_RATE).contains(&maximum),
-        None => false,
-    }
+fn is_wrong_maximum(supply: Supply) -> bool {
+    supply
+        .maximum
+        .is_some_and(|maximum| !(supply.rate..=HIGHEST_RATE).contains(&maximum))
 }
 
-// Why no row is made of the flow, or 0.
-fn row_refusal(flow: Flow) -> u8 {
-    if u128::from(flow.green.rate).saturating_add(u128::from(flow.yellow.rate))
-        > u128::from(HIGHEST_RATE)
-    {
-        1
-    } else if wrong_maximum(flow.green) || wrong_maximum(flow.yellow) {
-        2
+// A flow's green and yellow rate.
+pub fn rates_of(flow: &Flow) -> u128 {
+    u128::from(flow.green.rate).saturating_add(u128::from(flow.yellow.rate))
+}
+
+// Whether a row is made of the flow.
+fn check_flow(flow: Flow) -> Result<(), Cause> {
+    if rates_of(&flow) > u128::from(HIGHEST_RATE) {
+        Err(Cause::Rate)
+    } else if is_wrong_maximum(flow.green) || is_wrong_maximum(flow.yellow) {
+        Err(Cause::Maximum)
     } else if flow.green.volume.max(flow.yellow.volume) > LARGEST_VOLUME {
-        3
+        Err(Cause::Volume)
     } else {
-        0
+        Ok(())
     }
 }
 
-fn try_row(rt: &impl Abort, chance: &mut Chance) -> u8 {
+fn try_row(rt: &impl Abort, chance: &mut Chance) -> Result<(), Cause> {
     let flow = Flow {
         green: edge_supply(chance),
         yellow: edge_supply(chance),
         cf: chance.one_in(2),
     };
-    let expected = row_refusal(flow);
-    match Row::new(flow) {
-        Ok(row) => {
-            assert_eq!(rt; 0, expected);
-            assert!(rt; same_flow(row.flow(), flow));
-        }
-        Err(refusal) => assert_eq!(rt; refusal.number(), expected),
-    }
+    let expected = check_flow(flow);
+    let made = Row::new(flow).map(|row| row.flow());
+    assert_eq!(rt;
+        made.map_err(Refusal::number),
+        expected.map(|()| flow).map_err(Cause::number)
+    );
     expected
 }
 
 #[test]
-fn rows_at_the_limits(rt: HostRuntime) {
+fn rows_at_the_limits(rt: HostRuntime) -> Result<(), Fail> {
     let mut chance = Chance::new(7);
-    let mut made = 0u64;
-    let mut rates = 0u64;
-    let mut maxima = 0u64;
-    let mut volumes = 0u64;
+    let mut told = Vec::new(rt.alloc());
     for _ in 0..30_000 {
-        match try_row(&rt, &mut chance) {
-            0 => made = made.saturating_add(1),
-            1 => rates = rates.saturating_add(1),
-            2 => maxima = maxima.saturating_add(1),
-            _ => volumes = volumes.saturating_add(1),
-        }
+        told.push(try_row(&rt, &mut chance))?;
     }
-    assert!(rt; made > 3_000 && rates > 3_000 && maxima > 3_000 && volumes > 3_000);
+    let least = [
+        (Ok(()), 3_000),
+        (Err(Cause::Rate), 3_000),
+        (Err(Cause::Maximum), 3_000),
+        (Err(Cause::Volume), 3_000),
+    ];
+    assert_came(&rt, told.as_slice(), &least);
+    Ok(())
 }

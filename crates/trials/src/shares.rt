@@ -2,13 +2,16 @@
 // much room, and what it cannot take runs on to one other place, or is lost. Each rate is a source: what it brought is
 // poured in at its own place and runs on until all of it is taken or lost, one source after the other, the lowest
 // rank's first. There are no buckets, and numbers are of 128 bits.
+use crate::causes::Cause;
+use crate::contents::Contents;
 use crate::envelope_calls::{Call, Told};
 use crate::limits::{DAY_END, GRAINS_PER_TOKEN};
 use crate::places::{Place, after_green, after_yellow, green_of, yellow_of};
+use crate::profiles::Profile;
 use envelopes::colour::{Colour, Request};
-use envelopes::flow::Flow;
 use std::alloc::{AllocError, Global};
 
+// Two places may run on to one, so no place can own the next: it names it by index.
 #[derive(Drop)]
 pub struct Shares {
     places: Vec<Place>,
@@ -18,18 +21,17 @@ pub struct Shares {
 
 impl Shares {
     // All places are full.
-    pub fn new(heap: Global, flows: &[Flow], cf0: bool) -> Result<Shares, AllocError> {
+    pub fn new(heap: Global, profile: &Profile) -> Result<Shares, AllocError> {
+        let flows = profile.flows.len();
         let mut places = Vec::new(heap);
-        let mut rank = 0usize;
-        for flow in flows {
-            rank = rank.saturating_add(1);
-            let next = after_green(*flow, rank, flows.len(), cf0);
+        for (rank, flow) in (1..).zip(profile.flows.iter()) {
+            let next = after_green(*flow, rank, flows, profile.cf0);
             places.push(Place::new(flow.green, next))?;
             places.push(Place::new(flow.yellow, after_yellow(rank)))?;
         }
         Ok(Shares {
             places,
-            flows: flows.len(),
+            flows,
             latest: 0,
         })
     }
@@ -38,14 +40,12 @@ impl Shares {
         self.latest
     }
 
+    // No way from place to place is longer than all places.
     fn pour(&mut self, source: usize, grains: u128) {
         let mut left = grains;
         let mut at = Some(source);
-        for _ in 0..17 {
-            let Some(index) = at else {
-                return;
-            };
-            let Some(place) = self.places.get_mut(index) else {
+        for _ in 0..self.places.len() {
+            let Some(place) = at.and_then(|index| self.places.get_mut(index)) else {
                 return;
             };
             left = place.take(left);
@@ -58,11 +58,9 @@ impl Shares {
         for place in self.places.iter_mut() {
             place.open(time);
         }
+        // By index: what is poured in at one place changes others.
         for source in 0..self.places.len() {
-            let rate = match self.places.get(source) {
-                Some(place) => place.rate,
-                None => 0,
-            };
+            let rate = self.places.get(source).map_or(0, |place| place.rate);
             self.pour(source, rate.saturating_mul(time));
         }
         self.latest = moment;
@@ -76,50 +74,54 @@ impl Shares {
         }
     }
 
-    // What the bucket of an index holds, and its volume.
-    pub fn bucket(&self, index: usize) -> (u128, u128) {
-        match self.places.get(self.place_of_bucket(index)) {
-            Some(place) => (place.held, place.volume),
-            None => (0, 0),
-        }
+    // What should be in the bucket of an index.
+    pub fn bucket(&self, index: usize) -> Option<Contents> {
+        let place = self.places.get(self.place_of_bucket(index))?;
+        Some(place.contents())
     }
 
     pub fn take_from_bucket(&mut self, index: usize, grains: u64) {
         let at = self.place_of_bucket(index);
-        if let Some(place) = self.places.get_mut(at) {
-            place.pay(u128::from(grains));
+        self.pays(at, u128::from(grains));
+    }
+
+    fn held(&self, at: usize) -> u128 {
+        self.places.get(at).map_or(0, |place| place.held)
+    }
+
+    fn check_number(&self, handed: &[Contents]) -> Result<(), Cause> {
+        if handed.len() != self.places.len() {
+            return Err(Cause::Buckets);
         }
+        Ok(())
     }
 
-    // A rank's green and yellow count.
-    pub fn counts(&self, rank: u8) -> (u128, u128) {
-        let index = usize::from(rank).saturating_sub(1);
-        let (green, _) = self.bucket(index);
-        let (yellow, _) = self.bucket(index.saturating_add(self.flows));
-        (green, yellow)
-    }
-
-    fn has_volumes(&self, volumes: &[u64]) -> bool {
-        let mut right = volumes.len() == self.places.len();
-        for (index, volume) in volumes.iter().enumerate() {
-            let (_, own) = self.bucket(index);
-            right = right && own == u128::from(*volume);
+    fn check_volumes(&self, handed: &[Contents]) -> Result<(), Cause> {
+        self.check_number(handed)?;
+        for (index, bucket) in handed.iter().enumerate() {
+            let own = self.bucket(index).map(|own| own.volume);
+            if own != Some(bucket.volume) {
+                return Err(Cause::Buckets);
+            }
         }
-        right
+        Ok(())
     }
 
-    fn refuse_rank(&self, rank: u8) -> Result<(), u8> {
-        match usize::from(rank).checked_sub(1) {
-            Some(index) if index < self.flows => Ok(()),
-            _ => Err(9),
+    fn check_rank(&self, rank: u8) -> Result<(), Cause> {
+        if !(1..=self.flows).contains(&usize::from(rank)) {
+            return Err(Cause::Rank);
         }
+        Ok(())
     }
 
-    fn refuse_moment(&self, moment: u64) -> Result<(), u8> {
+    fn check_moment(&self, moment: u64) -> Result<(), Cause> {
         if moment < self.latest {
-            return Err(10);
+            return Err(Cause::BeforeLatest);
         }
-        if moment > DAY_END { Err(11) } else { Ok(()) }
+        if moment > DAY_END {
+            return Err(Cause::AfterDayEnd);
+        }
+        Ok(())
     }
 
     fn colour(&mut self, request: Request) -> Colour {
@@ -144,14 +146,14 @@ impl Shares {
         }
     }
 
-    fn judge(&mut self, request: Request) -> Result<Told, u8> {
+    fn judge(&mut self, request: Request) -> Result<Colour, Cause> {
         if request.tokens < 1 {
-            return Err(8);
+            return Err(Cause::NoTokens);
         }
-        self.refuse_rank(request.rank)?;
-        self.refuse_moment(request.moment)?;
+        self.check_rank(request.rank)?;
+        self.check_moment(request.moment)?;
         self.grow(request.moment);
-        Ok(Told::Colour(self.colour(request)))
+        Ok(self.colour(request))
     }
 
     fn fill(&mut self) {
@@ -160,30 +162,32 @@ impl Shares {
         }
     }
 
-    // A call that is handed buckets of these volumes: its answer, or the number of its refusal.
-    pub fn put(&mut self, volumes: &[u64], call: Call) -> Result<Told, u8> {
-        if matches!(call, Call::Fill) {
-            if volumes.len() != self.places.len() {
-                return Err(7);
-            }
-            self.fill();
-            return Ok(Told::Done);
-        }
-        if !self.has_volumes(volumes) {
-            return Err(7);
-        }
+    // What is told where buckets of these contents are handed in.
+    pub fn put(&mut self, handed: &[Contents], call: Call) -> Result<Told, Cause> {
         match call {
-            Call::Fill => Ok(Told::Done),
-            Call::Judge(request) => self.judge(request),
+            Call::Fill => {
+                self.check_number(handed)?;
+                self.fill();
+                Ok(Told::Done)
+            }
+            Call::Judge(request) => {
+                self.check_volumes(handed)?;
+                Ok(Told::Colour(self.judge(request)?))
+            }
             Call::Advance(moment) => {
-                self.refuse_moment(moment)?;
+                self.check_volumes(handed)?;
+                self.check_moment(moment)?;
                 self.grow(moment);
                 Ok(Told::Done)
             }
             Call::Read(rank) => {
-                self.refuse_rank(rank)?;
-                let (green, yellow) = self.counts(rank);
-                Ok(Told::Counts(green, yellow))
+                self.check_volumes(handed)?;
+                self.check_rank(rank)?;
+                let rank = usize::from(rank);
+                Ok(Told::Counts {
+                    green: self.held(green_of(rank)),
+                    yellow: self.held(yellow_of(rank)),
+                })
             }
         }
     }
