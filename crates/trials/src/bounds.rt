@@ -5,7 +5,7 @@ use crate::chance::Chance;
 use crate::entries::{Asking, Entry, run};
 use crate::limits::GRAINS_PER_TOKEN;
 use crate::opened::Opened;
-use crate::profiles::Profile;
+use crate::profiles::{Profile, index_of};
 use crate::rows::rates_of;
 use envelopes::colour::Colour;
 use envelopes::flow::Flow;
@@ -27,7 +27,7 @@ impl Bound {
     // A flow's Green tokens: the smaller of the green maximum, if there is one, and the sum of green rates from the
     // rank up.
     fn of_flow(flows: &[Flow], rank: u8) -> Bound {
-        let index = usize::from(rank).saturating_sub(1);
+        let index = index_of(rank);
         let rates = flows
             .iter()
             .skip(index)
@@ -64,13 +64,10 @@ impl Bound {
     }
 
     fn at_first(&self, entry: &Entry) -> u128 {
-        let counts = entry.counts.iter().map(|count| u128::from(*count));
+        let mut counts = entry.contents.iter().map(|bucket| bucket.held);
         match self.rank {
             None => counts.fold(0, u128::saturating_add),
-            Some(rank) => {
-                let index = usize::from(rank).saturating_sub(1);
-                counts.skip(index).next().unwrap_or(0)
-            }
+            Some(rank) => counts.nth(index_of(rank)).unwrap_or(0),
         }
     }
 
@@ -81,6 +78,7 @@ impl Bound {
             return 0;
         };
         let held = self.at_first(first);
+        // A loop: the tokens run on from call to call.
         let mut tokens = 0u128;
         let mut close = 0u64;
         for last in later {
@@ -126,7 +124,7 @@ fn sequence<B: Bucket>(rt: &(impl Abort + AllocGlobal), seed: u64) -> Result<Clo
     let entries = run(rt.alloc(), &mut chance, &mut opened, asking)?;
     let flows = profile.flows.as_slice();
     Ok(Close {
-        of_flows: (1..=8)
+        of_flows: (1..=profile.highest())
             .map(|rank| Bound::of_flow(flows, rank).within_all(rt, entries.as_slice()))
             .fold(0, u64::saturating_add),
         of_all: Bound::of_all(flows).within_all(rt, entries.as_slice()),

@@ -1,19 +1,20 @@
 // What an envelope declares in a run of accepted calls, and what its buckets hold after each.
 use crate::any_calls::any_call;
 use crate::chance::Chance;
+use crate::contents::{Contents, contents_of};
 use crate::envelope_calls::{Call, Told};
 use crate::opened::Opened;
 use envelopes::colour::{Colour, Request};
 use std::alloc::{AllocError, Global};
 use tokens::bucket::Bucket;
 
-// An accepted call, what it told, and the latest moment and the counts after it.
+// An accepted call, what it told, and the latest moment and what the buckets hold after it.
 #[derive(Drop)]
 pub struct Entry {
     call: Call,
     told: Told,
     pub latest: u64,
-    pub counts: Vec<u64>,
+    pub contents: Vec<Contents>,
 }
 
 impl Entry {
@@ -68,11 +69,7 @@ pub fn run<B: Bucket>(
                 call,
                 told,
                 latest: opened.latest(),
-                counts: opened
-                    .buckets
-                    .iter()
-                    .map(|bucket| bucket.count())
-                    .collect(heap)?,
+                contents: contents_of(heap, opened.buckets.as_slice())?,
             })?;
         }
     }

@@ -4,7 +4,7 @@ use crate::any_calls::any_call;
 use crate::chance::Chance;
 use crate::envelope_calls::{Call, Told};
 use crate::opened::Opened;
-use crate::profiles::Profile;
+use crate::profiles::{Profile, index_of};
 use envelopes::colour::{Colour, Request};
 use envelopes::flow::Flow;
 use std::alloc::{AllocGlobal, Global};
@@ -17,20 +17,34 @@ use tokens::leaky_bucket::LeakyBucket;
 use tokens::meter::Meter;
 use tokens::token_bucket::TokenBucket;
 
-// An envelope, and for each flow with a green rate and volume a meter of its own, as long as that passed all.
+// A flow, and a meter of its own at its green rate and volume, as long as that passed all.
+#[derive(Clone, Copy)]
+struct Lone<M> {
+    flow: Flow,
+    meter: Option<M>,
+}
+
+impl<M: Meter> Lone<M> {
+    fn renew(&mut self) {
+        self.meter = M::new(self.flow.green.rate, self.flow.green.volume).ok();
+    }
+
+    // Charges the meter, and answers whether it passed. One that did not is let go.
+    fn charge(&mut self, request: Request) -> bool {
+        let Some(mut meter) = self.meter else {
+            return false;
+        };
+        let passed = meter.charge(request.tokens, request.moment) == Ok(true);
+        self.meter = passed.then_some(meter);
+        passed
+    }
+}
+
+// An envelope, and by rank its flows with their meters.
 #[derive(Drop)]
 struct Metered<B, M> {
     opened: Opened<B>,
-    profile: Profile,
-    meters: Vec<Option<M>>,
-}
-
-fn new_meter<M: Meter>(flow: &Flow) -> Option<M> {
-    M::new(flow.green.rate, flow.green.volume).ok()
-}
-
-fn index_of(rank: u8) -> usize {
-    usize::from(rank).saturating_sub(1)
+    flows: Vec<Lone<M>>,
 }
 
 impl<B: Bucket, M: Meter> Metered<B, M> {
@@ -38,34 +52,31 @@ impl<B: Bucket, M: Meter> Metered<B, M> {
     fn filled(heap: Global, chance: &mut Chance) -> Result<Metered<B, M>, Fail> {
         let profile = Profile::any(heap, chance)?;
         let mut opened = Opened::new(heap, &profile)?;
-        let meters = profile
-            .flows
-            .iter()
-            .map(|flow| new_meter::<M>(flow))
-            .collect(heap)?;
         opened.fill()?;
-        Ok(Metered {
-            opened,
-            profile,
-            meters,
-        })
+        let mut flows = Vec::new(heap);
+        for flow in profile.flows.iter() {
+            flows.push(Lone {
+                flow: *flow,
+                meter: None,
+            })?;
+        }
+        let mut metered = Metered { opened, flows };
+        metered.renew();
+        Ok(metered)
     }
 
     fn renew(&mut self) {
-        for (meter, flow) in self.meters.iter_mut().zip(self.profile.flows.iter()) {
-            *meter = new_meter(flow);
+        for lone in self.flows.iter_mut() {
+            lone.renew();
         }
-    }
-
-    fn meter_of(&self, rank: u8) -> Option<M> {
-        self.meters.get(index_of(rank)).copied().flatten()
     }
 
     // Most requests for Green that the flow's meter would not pass are left out, so that meters go on passing.
     fn gentle_call(&self, chance: &mut Chance) -> Call {
         let call = any_call(chance, &self.opened);
         if let Call::Judge(request) = call
-            && let Some(meter) = self.meter_of(request.rank)
+            && let Some(lone) = self.flows.get(index_of(request.rank))
+            && let Some(meter) = lone.meter
             && meter.question(request.tokens, request.moment) != Ok(true)
             && !chance.one_in(16)
         {
@@ -74,18 +85,14 @@ impl<B: Bucket, M: Meter> Metered<B, M> {
         call
     }
 
-    // Charges the flow's meter for an accepted request for Green, and answers whether it passed. A meter that did not
-    // is let go.
+    // Charges the flow's meter for an accepted request for Green, and answers whether it passed.
     fn charge(&mut self, rt: &impl Abort, request: Request, told: Told) -> bool {
-        let Some(mut meter) = self.meter_of(request.rank) else {
+        let Some(lone) = self.flows.get_mut(index_of(request.rank)) else {
             return false;
         };
-        let passed = meter.charge(request.tokens, request.moment) == Ok(true);
+        let passed = lone.charge(request);
         if passed {
             assert_eq!(rt; told, Told::Colour(Colour::Green));
-        }
-        if let Some(place) = self.meters.get_mut(index_of(request.rank)) {
-            *place = passed.then_some(meter);
         }
         passed
     }

@@ -3,7 +3,7 @@ use crate::causes::Cause;
 use crate::chance::Chance;
 use crate::counted::assert_came;
 use crate::limits::{DAY_END, GRAINS_PER_TOKEN};
-use crate::windows::Windows;
+use crate::windows::{Limits, Windows};
 use std::alloc::AllocGlobal;
 use std::process::Abort;
 use std::test::Fail;
@@ -18,6 +18,11 @@ const RATES: [u64; 6] = [1, 2, 1_000, 125_000, 99_999_999, 100_000_000];
 
 const BURSTS: [u64; 6] = [1, 2, 1_500, 65_536, 999_999_999, 1_000_000_000];
 
+const FIGURE: Limits = Limits {
+    rate: 1_000,
+    burst: 1_500,
+};
+
 // A meter in each of the three forms.
 #[derive(Clone, Copy)]
 struct Forms {
@@ -27,7 +32,8 @@ struct Forms {
 }
 
 impl Forms {
-    fn new(rate: u64, burst: u64) -> Result<Forms, Refusal> {
+    fn new(limits: Limits) -> Result<Forms, Refusal> {
+        let Limits { rate, burst } = limits;
         Ok(Forms {
             token: TokenBucket::new(rate, burst)?,
             schedule: VirtualScheduling::new(rate, burst)?,
@@ -101,13 +107,22 @@ fn any_moment(chance: &mut Chance, latest: u64, rate: u64, tokens: u32) -> u64 {
     }
 }
 
-fn any_call(chance: &mut Chance, windows: &Windows, rate: u64, burst: u64) -> Call {
-    let tokens = any_tokens(chance, burst);
-    let moment = any_moment(chance, windows.latest(), rate, tokens);
+fn any_call(chance: &mut Chance, latest: u64, limits: Limits) -> Call {
+    let tokens = any_tokens(chance, limits.burst);
+    let moment = any_moment(chance, latest, limits.rate, tokens);
     match chance.between(0, 9) {
         0 => Call::Wait { moment },
-        1 | 2 => Call::Question { tokens, moment },
+        1..=2 => Call::Question { tokens, moment },
         _ => Call::Charge { tokens, moment },
+    }
+}
+
+// One of the edges, or any number up to the highest.
+fn any_limit(chance: &mut Chance, edges: &[u64], highest: u64) -> u64 {
+    if chance.one_in(4) {
+        chance.between(1, highest)
+    } else {
+        chance.pick(edges)
     }
 }
 
@@ -118,20 +133,14 @@ fn sequence(
     told: &mut Vec<Result<Answer, Cause>>,
 ) -> Result<(), Fail> {
     let mut chance = Chance::new(seed);
-    let rate = if chance.one_in(4) {
-        chance.between(1, 100_000_000)
-    } else {
-        chance.pick(&RATES)
+    let limits = Limits {
+        rate: any_limit(&mut chance, &RATES, 100_000_000),
+        burst: any_limit(&mut chance, &BURSTS, 1_000_000_000),
     };
-    let burst = if chance.one_in(4) {
-        chance.between(1, 1_000_000_000)
-    } else {
-        chance.pick(&BURSTS)
-    };
-    let mut windows = Windows::new(rt.alloc(), rate, burst)?;
-    let mut forms = Forms::new(rate, burst)?;
+    let mut windows = Windows::new(rt.alloc(), limits)?;
+    let mut forms = Forms::new(limits)?;
     for _ in 0..150 {
-        let call = any_call(&mut chance, &windows, rate, burst);
+        let call = any_call(&mut chance, windows.latest(), limits);
         let expected = windows.put(call)?;
         forms.tell(rt, call, expected);
         told.push(expected)?;
@@ -158,8 +167,9 @@ fn three_forms_agree_with_windows(rt: HostRuntime) -> Result<(), Fail> {
 }
 
 // Whether a form takes a rate and a burst, or the number of its refusal.
-fn try_limits<M: Meter>(rate: u64, burst: u64) -> Result<(), u8> {
-    M::new(rate, burst).map(|_| ()).map_err(Refusal::number)
+fn try_limits<M: Meter>(limits: Limits) -> Result<(), u8> {
+    let made = M::new(limits.rate, limits.burst);
+    made.map(|_| ()).map_err(Refusal::number)
 }
 
 #[test]
@@ -178,11 +188,12 @@ fn rates_and_bursts_at_the_edges(rt: HostRuntime) {
     ];
     for rate in edges {
         for burst in edges {
-            let made = Windows::new(rt.alloc(), rate, burst).map(|_| ());
-            let expected = made.map_err(Cause::number);
-            assert_eq!(rt; try_limits::<TokenBucket>(rate, burst), expected);
-            assert_eq!(rt; try_limits::<VirtualScheduling>(rate, burst), expected);
-            assert_eq!(rt; try_limits::<LeakyBucket>(rate, burst), expected);
+            let limits = Limits { rate, burst };
+            let made = Windows::new(rt.alloc(), limits);
+            let expected = made.map(|_| ()).map_err(Cause::number);
+            assert_eq!(rt; try_limits::<TokenBucket>(limits), expected);
+            assert_eq!(rt; try_limits::<VirtualScheduling>(limits), expected);
+            assert_eq!(rt; try_limits::<LeakyBucket>(limits), expected);
         }
     }
 }
@@ -190,7 +201,7 @@ fn rates_and_bursts_at_the_edges(rt: HostRuntime) {
 #[test]
 fn worked_figure_in_three_forms(rt: HostRuntime) -> Result<(), Fail> {
     let expected = [Answer::Yes, Answer::No, Answer::Yes, Answer::No];
-    let mut forms = Forms::new(1_000, 1_500)?;
+    let mut forms = Forms::new(FIGURE)?;
     for (call, answer) in worked_figure().into_iter().zip(expected) {
         forms.tell(&rt, call, Ok(answer));
     }
@@ -204,7 +215,7 @@ fn meters_of_one_burst_are_alike_and_of_two_are_not(rt: HostRuntime) -> Result<(
         token,
         schedule,
         leaky,
-    } = Forms::new(1_000, 1_500)?;
+    } = Forms::new(FIGURE)?;
     assert!(rt; alike(token, schedule, &calls));
     assert!(rt; alike(schedule, leaky, &calls));
     assert!(rt; alike(leaky, token, &calls));

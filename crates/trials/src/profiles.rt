@@ -15,6 +15,11 @@ pub struct Profile {
     pub cf0: bool,
 }
 
+// Where a rank stands in a list by rank.
+pub fn index_of(rank: u8) -> usize {
+    usize::from(rank).saturating_sub(1)
+}
+
 // What rates and volumes are picked from.
 #[derive(Clone, Copy)]
 struct Sizes {

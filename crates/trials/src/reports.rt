@@ -1,6 +1,6 @@
 // Reports on traces: inputs written out, good and damaged, and pseudo-random ones against the meter by windows.
 use crate::chance::Chance;
-use crate::windows::Windows;
+use crate::windows::{Limits, Windows};
 use std::alloc::AllocGlobal;
 use std::fmt::Write;
 use std::process::Abort;
@@ -11,20 +11,13 @@ use traces::report::{Ending, complaint, conform};
 
 const FORMS: [Form; 3] = [Form::Token, Form::Schedule, Form::Leaky];
 
-// The rate and the burst of a meter.
-#[derive(Clone, Copy)]
-struct Limits {
-    rate: u64,
-    burst: u64,
-}
-
 const FIGURE: Limits = Limits {
     rate: 1_000,
     burst: 1_500,
 };
 
 impl Limits {
-    // All three forms report this text on a trace, and end so.
+    // All three forms of meter report this text on a trace, and end so.
     fn expect(
         self,
         rt: &(impl Abort + AllocGlobal),
@@ -145,9 +138,10 @@ fn random_report(rt: &(impl Abort + AllocGlobal), seed: u64) -> Result<(), Fail>
         rate: chance.between(1, 50_000),
         burst: chance.between(1, 9_000),
     };
-    let mut windows = Windows::new(rt.alloc(), limits.rate, limits.burst)?;
+    let mut windows = Windows::new(rt.alloc(), limits)?;
     let mut trace = String::new(rt.alloc());
     let mut text = String::new(rt.alloc());
+    // One loop: the sums run on with the lines.
     let mut moment: u64 = 0;
     let mut passed: u64 = 0;
     let mut sum: u64 = 0;

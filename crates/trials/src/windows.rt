@@ -13,6 +13,13 @@ struct Packet {
     moment: u64,
 }
 
+// The rate and the burst of a meter.
+#[derive(Clone, Copy)]
+pub struct Limits {
+    pub rate: u64,
+    pub burst: u64,
+}
+
 #[derive(Drop)]
 pub struct Windows {
     rate: u128,
@@ -22,7 +29,8 @@ pub struct Windows {
 }
 
 impl Windows {
-    pub fn new(heap: Global, rate: u64, burst: u64) -> Result<Windows, Cause> {
+    pub fn new(heap: Global, limits: Limits) -> Result<Windows, Cause> {
+        let Limits { rate, burst } = limits;
         if !(1..=HIGHEST_RATE).contains(&rate) || !(1..=LARGEST_BURST).contains(&burst) {
             return Err(Cause::RateOrBurst);
         }
@@ -69,7 +77,7 @@ impl Windows {
         }
     }
 
-    // What is told, unless there is no memory for a packet more.
+    // What is told, unless there is no memory for one packet more.
     pub fn put(&mut self, call: Call) -> Result<Result<Answer, Cause>, AllocError> {
         let (tokens, moment) = match call {
             Call::Question { tokens, moment } | Call::Charge { tokens, moment } => (tokens, moment),
