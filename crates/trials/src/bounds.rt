@@ -3,7 +3,7 @@
 // and all flows get no more Green and Yellow tokens than all counts and what all rates bring.
 use crate::chance::Chance;
 use crate::entries::{Asking, Entry, run};
-use crate::limits::GRAINS_PER_TOKEN;
+use crate::limits::grains;
 use crate::opened::Opened;
 use crate::profiles::{Profile, index_of};
 use crate::rows::rates_of;
@@ -85,9 +85,8 @@ impl Bound {
             tokens = tokens.saturating_add(self.declared(last));
             let time = u128::from(last.latest.saturating_sub(first.latest));
             let most = held.saturating_add(time.saturating_mul(self.rate));
-            let grains = tokens.saturating_mul(u128::from(GRAINS_PER_TOKEN));
-            assert!(rt; grains <= most);
-            if tokens > 0 && grains.saturating_add(u128::from(GRAINS_PER_TOKEN)) > most {
+            assert!(rt; grains(tokens) <= most);
+            if tokens > 0 && grains(tokens.saturating_add(1)) > most {
                 close = close.saturating_add(1);
             }
             if last.is_fill() {
@@ -97,7 +96,7 @@ impl Bound {
         close
     }
 
-    // From each accepted call.
+    // From each accepted call, with all later ones.
     fn within_all(&self, rt: &impl Abort, entries: &[Entry]) -> u64 {
         (0..entries.len())
             .map(|from| self.within(rt, &entries[from..]))

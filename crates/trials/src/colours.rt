@@ -51,7 +51,7 @@ impl<B: Bucket> Both<B> {
         }
     }
 
-    // One call upon both. What a refused call is handed stays as it was.
+    // One call upon both, and what they tell, unless there is no memory. What a refused call is handed stays as it was.
     fn step(
         &mut self,
         rt: &(impl Abort + AllocGlobal),

@@ -79,6 +79,7 @@ impl Growing {
         })
     }
 
+    // One flow more, and what is told of it, unless there is no memory or no row of the flow.
     fn add(&mut self, rt: &impl Abort, flow: Flow) -> Result<Result<(), Cause>, Fail> {
         let expected = check_flow(&self.profile, &flow);
         let told = self.draft.add(Row::new(flow)?);

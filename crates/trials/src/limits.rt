@@ -2,6 +2,11 @@
 
 pub const GRAINS_PER_TOKEN: u64 = 1_000_000;
 
+// So many tokens, in grains.
+pub fn grains(tokens: u128) -> u128 {
+    tokens.saturating_mul(u128::from(GRAINS_PER_TOKEN))
+}
+
 // The last moment of a service day, in microseconds.
 pub const DAY_END: u64 = 24 * 60 * 60 * 1_000_000;
 

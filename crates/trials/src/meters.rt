@@ -3,7 +3,7 @@ use crate::causes::Cause;
 use crate::chance::Chance;
 use crate::counted::assert_came;
 use crate::limits::{DAY_END, GRAINS_PER_TOKEN};
-use crate::windows::{Limits, Windows};
+use crate::windows::{FIGURE, Limits, Windows};
 use std::alloc::AllocGlobal;
 use std::process::Abort;
 use std::test::Fail;
@@ -17,11 +17,6 @@ use tokens::virtual_scheduling::VirtualScheduling;
 const RATES: [u64; 6] = [1, 2, 1_000, 125_000, 99_999_999, 100_000_000];
 
 const BURSTS: [u64; 6] = [1, 2, 1_500, 65_536, 999_999_999, 1_000_000_000];
-
-const FIGURE: Limits = Limits {
-    rate: 1_000,
-    burst: 1_500,
-};
 
 // A meter in each of the three forms.
 #[derive(Clone, Copy)]
@@ -43,19 +38,17 @@ impl Forms {
 
     // All three tell what is expected.
     fn tell(&mut self, rt: &impl Abort, call: Call, expected: Result<Answer, Cause>) {
-        let expected = expected.map_err(Cause::number);
-        assert_eq!(rt;
-            put(&mut self.token, call).map_err(Refusal::number),
-            expected
-        );
-        assert_eq!(rt;
-            put(&mut self.schedule, call).map_err(Refusal::number),
-            expected
-        );
-        assert_eq!(rt;
-            put(&mut self.leaky, call).map_err(Refusal::number),
-            expected
-        );
+        let told = [
+            put(&mut self.token, call),
+            put(&mut self.schedule, call),
+            put(&mut self.leaky, call),
+        ];
+        for one in told {
+            assert_eq!(rt;
+                one.map_err(Refusal::number),
+                expected.map_err(Cause::number)
+            );
+        }
     }
 }
 

@@ -1,6 +1,7 @@
 // The places of an envelope by pouring: a flow's green and yellow one, and where each runs on to.
 use crate::contents::Contents;
-use crate::limits::GRAINS_PER_TOKEN;
+use crate::limits::grains;
+use crate::profiles::Profile;
 use envelopes::flow::{Flow, Supply};
 
 #[derive(Clone, Copy)]
@@ -10,12 +11,13 @@ pub struct Place {
     pub volume: u128,
     pub held: u128,
     room: u128,
+    // An index: two places may run on to one, so that neither can own it.
     pub next: Option<usize>,
 }
 
 impl Place {
     pub fn new(supply: Supply, next: Option<usize>) -> Place {
-        let volume = u128::from(supply.volume).saturating_mul(u128::from(GRAINS_PER_TOKEN));
+        let volume = grains(u128::from(supply.volume));
         Place {
             rate: u128::from(supply.rate),
             maximum: supply.maximum,
@@ -49,13 +51,11 @@ impl Place {
     }
 
     pub fn pay(&mut self, grains: u128) -> bool {
-        match self.held.checked_sub(grains) {
-            Some(left) => {
-                self.held = left;
-                true
-            }
-            None => false,
-        }
+        let Some(left) = self.held.checked_sub(grains) else {
+            return false;
+        };
+        self.held = left;
+        true
     }
 }
 
@@ -69,13 +69,13 @@ pub fn yellow_of(rank: usize) -> usize {
 }
 
 // Where green that a rank cannot take runs on to.
-pub fn after_green(flow: Flow, rank: usize, highest: usize, cf0: bool) -> Option<usize> {
+pub fn after_green(profile: &Profile, flow: &Flow, rank: usize) -> Option<usize> {
     if flow.cf {
         Some(yellow_of(rank))
     } else if rank > 1 {
         Some(green_of(rank.saturating_sub(1)))
-    } else if cf0 {
-        Some(yellow_of(highest))
+    } else if profile.cf0 {
+        Some(yellow_of(profile.flows.len()))
     } else {
         None
     }

@@ -1,6 +1,6 @@
 // Reports on traces: inputs written out, good and damaged, and pseudo-random ones against the meter by windows.
 use crate::chance::Chance;
-use crate::windows::{Limits, Windows};
+use crate::windows::{FIGURE, Limits, Windows};
 use std::alloc::AllocGlobal;
 use std::fmt::Write;
 use std::process::Abort;
@@ -10,11 +10,6 @@ use traces::arguments::{Arguments, Form, Misuse, read_arguments};
 use traces::report::{Ending, complaint, conform};
 
 const FORMS: [Form; 3] = [Form::Token, Form::Schedule, Form::Leaky];
-
-const FIGURE: Limits = Limits {
-    rate: 1_000,
-    burst: 1_500,
-};
 
 impl Limits {
     // All three forms of meter report this text on a trace, and end so.

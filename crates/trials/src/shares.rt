@@ -5,13 +5,12 @@
 use crate::causes::Cause;
 use crate::contents::Contents;
 use crate::envelope_calls::{Call, Told};
-use crate::limits::{DAY_END, GRAINS_PER_TOKEN};
+use crate::limits::{DAY_END, grains};
 use crate::places::{Place, after_green, after_yellow, green_of, yellow_of};
 use crate::profiles::Profile;
 use envelopes::colour::{Colour, Request};
 use std::alloc::{AllocError, Global};
 
-// Two places may run on to one, so no place can own the next: it names it by index.
 #[derive(Drop)]
 pub struct Shares {
     places: Vec<Place>,
@@ -22,16 +21,14 @@ pub struct Shares {
 impl Shares {
     // All places are full.
     pub fn new(heap: Global, profile: &Profile) -> Result<Shares, AllocError> {
-        let flows = profile.flows.len();
         let mut places = Vec::new(heap);
         for (rank, flow) in (1..).zip(profile.flows.iter()) {
-            let next = after_green(*flow, rank, flows, profile.cf0);
-            places.push(Place::new(flow.green, next))?;
+            places.push(Place::new(flow.green, after_green(profile, flow, rank)))?;
             places.push(Place::new(flow.yellow, after_yellow(rank)))?;
         }
         Ok(Shares {
             places,
-            flows,
+            flows: profile.flows.len(),
             latest: 0,
         })
     }
@@ -40,7 +37,7 @@ impl Shares {
         self.latest
     }
 
-    // No way from place to place is longer than all places.
+    // There are no more steps than places: nothing runs in a circle.
     fn pour(&mut self, source: usize, grains: u128) {
         let mut left = grains;
         let mut at = Some(source);
@@ -126,24 +123,23 @@ impl Shares {
 
     fn colour(&mut self, request: Request) -> Colour {
         let rank = usize::from(request.rank);
-        let grains = u128::from(request.tokens).saturating_mul(u128::from(GRAINS_PER_TOKEN));
+        let amount = grains(u128::from(request.tokens));
         if request.asked == Colour::Red {
             return Colour::Red;
         }
-        if request.asked == Colour::Green && self.pays(green_of(rank), grains) {
+        if request.asked == Colour::Green && self.pays(green_of(rank), amount) {
             return Colour::Green;
         }
-        if self.pays(yellow_of(rank), grains) {
+        if self.pays(yellow_of(rank), amount) {
             return Colour::Yellow;
         }
         Colour::Red
     }
 
     fn pays(&mut self, at: usize, grains: u128) -> bool {
-        match self.places.get_mut(at) {
-            Some(place) => place.pay(grains),
-            None => false,
-        }
+        self.places
+            .get_mut(at)
+            .is_some_and(|place| place.pay(grains))
     }
 
     fn judge(&mut self, request: Request) -> Result<Colour, Cause> {

@@ -2,7 +2,7 @@
 // counted from each packet that passed before, all that passed since then is at most the burst and what the rate
 // brings in the time since then. There is no level. Numbers are of 128 bits, and no sum comes near that.
 use crate::causes::Cause;
-use crate::limits::{DAY_END, GRAINS_PER_TOKEN, HIGHEST_RATE, LARGEST_BURST};
+use crate::limits::{DAY_END, HIGHEST_RATE, LARGEST_BURST, grains};
 use std::alloc::{AllocError, Global};
 use tokens::calls::{Answer, Call};
 
@@ -19,6 +19,12 @@ pub struct Limits {
     pub rate: u64,
     pub burst: u64,
 }
+
+// Of the worked figure.
+pub const FIGURE: Limits = Limits {
+    rate: 1_000,
+    burst: 1_500,
+};
 
 #[derive(Drop)]
 pub struct Windows {
@@ -51,14 +57,12 @@ impl Windows {
         if sum > self.burst {
             return false;
         }
+        // A loop: the sum runs on.
         for packet in self.passed.iter().rev() {
             sum = sum.saturating_add(u128::from(packet.tokens));
             let time = u128::from(moment.saturating_sub(packet.moment));
-            let room = self
-                .burst
-                .saturating_mul(u128::from(GRAINS_PER_TOKEN))
-                .saturating_add(self.rate.saturating_mul(time));
-            if sum.saturating_mul(u128::from(GRAINS_PER_TOKEN)) > room {
+            let room = grains(self.burst).saturating_add(self.rate.saturating_mul(time));
+            if grains(sum) > room {
                 return false;
             }
         }
