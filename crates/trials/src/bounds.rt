@@ -7,7 +7,7 @@ use crate::limits::grains;
 use crate::opened::Opened;
 use crate::profiles::{Profile, index_of};
 use crate::rows::rates_of;
-use envelopes::colour::Colour;
+use envelopes::colour::{Colour, Request};
 use envelopes::flow::Flow;
 use std::alloc::AllocGlobal;
 use std::process::Abort;
@@ -48,18 +48,18 @@ impl Bound {
         }
     }
 
-    fn declared(&self, entry: &Entry) -> u128 {
-        let Some((request, colour)) = entry.declared() else {
-            return 0;
-        };
-        let counts = match self.rank {
+    // Whether the bound is about a request that was declared this colour.
+    fn covers(&self, request: Request, colour: Colour) -> bool {
+        match self.rank {
             None => colour != Colour::Red,
             Some(rank) => request.rank == rank && colour == Colour::Green,
-        };
-        if counts {
-            u128::from(request.tokens)
-        } else {
-            0
+        }
+    }
+
+    fn declared(&self, entry: &Entry) -> u128 {
+        match entry.declared() {
+            Some((request, colour)) if self.covers(request, colour) => u128::from(request.tokens),
+            _ => 0,
         }
     }
 

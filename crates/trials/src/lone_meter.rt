@@ -25,8 +25,11 @@ struct Lone<M> {
 }
 
 impl<M: Meter> Lone<M> {
-    fn renew(&mut self) {
-        self.meter = M::new(self.flow.green.rate, self.flow.green.volume).ok();
+    fn new(flow: Flow) -> Lone<M> {
+        Lone {
+            flow,
+            meter: M::new(flow.green.rate, flow.green.volume).ok(),
+        }
     }
 
     // Charges the meter, and answers whether it passed. One that did not is let go.
@@ -53,21 +56,16 @@ impl<B: Bucket, M: Meter> Metered<B, M> {
         let profile = Profile::any(heap, chance)?;
         let mut opened = Opened::new(heap, &profile)?;
         opened.fill()?;
-        let mut flows = Vec::new(heap);
-        for flow in profile.flows.iter() {
-            flows.push(Lone {
-                flow: *flow,
-                meter: None,
-            })?;
-        }
-        let mut metered = Metered { opened, flows };
-        metered.renew();
-        Ok(metered)
+        let flows = profile.flows.iter().map(|flow| Lone::<M>::new(*flow));
+        Ok(Metered {
+            opened,
+            flows: flows.collect(heap)?,
+        })
     }
 
     fn renew(&mut self) {
         for lone in self.flows.iter_mut() {
-            lone.renew();
+            *lone = Lone::new(lone.flow);
         }
     }
 
