@@ -1,9 +1,9 @@
 -- What holds of the rows of every draft. Assumes nothing.
-use Rattle.std.proofs.Common.{◌≡◌, ℕ, ◌≤◌, Bool, false, ◌&&◌, List, [], ◌∷◌, length, take, sym, ap, ◌∙◌, arith}
+use Rattle.std.proofs.Common.{◌≡◌, ℕ, ◌≤◌, Bool, false, ◌&&◌, List, [], ◌∷◌, length, sym, ap, ◌∙◌, arith}
 use lib.ListN.{length-map}
 use Rattle.std.specs.List.{AllByRecursion}
 use Rattle.tokens.specs.Units.{highest_rate}
-use Rattle.envelopes.specs.Drafts.{profile}
+use Rattle.envelopes.specs.Drafts.{profile, rows_of}
 use Rattle.envelopes.specs.Growth.{grown}
 use Rattle.envelopes.specs.Profiles.{Lawful, Profile, ReachesItsRate, all_rates, coupled}
 use Rattle.envelopes.specs.Promises.{parted}
@@ -11,7 +11,7 @@ use Rattle.envelopes.specs.Stored.{flows, most_flows}
 use Rattle.envelopes.specs.declared.draft.Draft.{Draft}
 use Rattle.envelopes.specs.declared.row.Row.{Row}
 
-module _ (d : Draft) (rows : List Row) (told : rows ≡ take d.len d.rows) where
+module _ (d : Draft) (rows : List Row) (told : rows ≡ rows_of d) where
   pub their_flows : flows rows ≡ (profile d).flows
   their_flows = ap flows told
 
@@ -19,10 +19,10 @@ module _ (d : Draft) (rows : List Row) (told : rows ≡ take d.len d.rows) where
   as_many_rows = sym (length-map rows (λ r. r.flow)) ∙ ap length their_flows
 
   pub some_rows : 1 ≤ length rows
-  some_rows = omega (arith, as_many_rows, d.counted, d.some)
+  some_rows = omega (arith, ap length told, d.some)
 
   pub few_rows : length rows ≤ most_flows
-  few_rows = omega (arith, as_many_rows, d.counted, d.few)
+  few_rows = omega (arith, ap length told, d.few)
 
   pub rates_within : all_rates (flows rows) ≤ highest_rate
   rates_within = omega (arith, ap all_rates their_flows, d.rates_sum, d.rates_bound)
@@ -46,5 +46,5 @@ pub lawful : (d : Draft) → Lawful (profile d)
 lawful d =
     record {
       not_both_flags = ap (λ b. d.cf0 && b) (sym d.coupled_flag) ∙ d.not_both;
-      green_rates_reached = all_reach (take d.len d.rows);
+      green_rates_reached = all_reach (rows_of d);
     }

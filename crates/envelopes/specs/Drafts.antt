@@ -1,5 +1,5 @@
 -- What a draft says, and why it does not take a flow or a flag. Assumes nothing.
-use Rattle.std.specs.Prelude.{◌+◌, Bool, ◌&&◌, ◌||◌, List, [], ◌∷◌, ◌++◌, length, take, nat_le, nat_lt}
+use Rattle.std.specs.Prelude.{◌+◌, Bool, ◌&&◌, ◌||◌, List, [], ◌∷◌, ◌++◌, length, nat_le, nat_lt}
 use Rattle.tokens.specs.Refusals.{Cause}
 use Rattle.tokens.specs.Units.{highest_rate}
 use Rattle.envelopes.specs.Profiles.{Profile, all_rates, coupled}
@@ -10,7 +10,7 @@ use Rattle.envelopes.specs.declared.row.Row.{Row}
 
 -- a draft's rows by rank
 abbrev pub rows_of : Draft → List Row
-rows_of d = take d.len d.rows
+rows_of d = d.rows.items
 
 -- what a draft says: its flows by rank, and CF0
 abbrev pub profile : Draft → Profile

@@ -3,6 +3,7 @@ use Rattle.std.specs.Prelude.{ℕ, ◌+◌, Bool, false, ◌||◌, List, [], ◌
 use Rattle.tokens.specs.Refusals.{Cause}
 use Rattle.tokens.specs.Units.{highest_rate}
 use Rattle.envelopes.specs.declared.flow.Flow.{Flow}
+use Rattle.envelopes.specs.declared.flow.Supply.{Supply}
 
 -- the largest volume of a flow's bucket, in tokens
 abbrev pub largest_flow_volume : ℕ
@@ -27,3 +28,10 @@ row_causes f =
       applies = nat_lt largest_flow_volume f.green.volume || nat_lt largest_flow_volume f.yellow.volume;
       number = 3;
     } ∷ []
+
+-- a flow that is entitled to nothing
+abbrev pub no_supply : Supply
+no_supply = record { rate = 0; maximum = None; volume = 0 }
+
+abbrev pub nothing : Flow
+nothing = record { green = no_supply; yellow = no_supply; cf = false }

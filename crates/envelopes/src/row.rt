@@ -2,7 +2,7 @@
 ghost use Rattle.std.specs.Prelude.{◌≡◌, ◌+◌, ◌≤◌};
 ghost use Rattle.envelopes.specs.Profiles.{ReachesItsRate, maximum_or_0};
 ghost use Rattle.envelopes.specs.Refusals.{told_by};
-ghost use Rattle.envelopes.specs.Rows.{largest_flow_volume, row_causes, wrong_maximum};
+ghost use Rattle.envelopes.specs.Rows.{largest_flow_volume, nothing, row_causes, wrong_maximum};
 ghost use Rattle.tokens.specs.Refusals.{unless_refused};
 ghost use Rattle.tokens.specs.Units.{highest_rate};
 
@@ -60,5 +60,16 @@ impl Row {
         ensures { result ≡ self.now.flow }
     {
         self.flow
+    }
+}
+
+/// A row of nothing: its rates and volumes are 0, and it has neither a maximum nor CF.
+impl Default for Row {
+    ghost is_default = { λ row. row.flow ≡ nothing };
+
+    fn default() -> Self {
+        Row {
+            flow: Flow::default(),
+        }
     }
 }

@@ -1,14 +1,13 @@
 // What a draft tells, and what it takes.
-ghost use Rattle.std.specs.Prelude.{◌≡◌, ◌+◌, ◌<◌, ◌≤◌, true, false, ◌&&◌, ◌||◌, [], ◌∷◌, is_err, OnOk};
+ghost use Rattle.std.specs.Prelude.{◌≡◌, true, false, [], ◌∷◌, is_err};
 ghost use Rattle.envelopes.specs.Drafts.{add_causes, cf0_causes, profile, rows_of, with_cf0, with_flow};
 ghost use Rattle.envelopes.specs.Refusals.{told};
-ghost use Rattle.envelopes.specs.Stored.{most_flows};
 ghost use Rattle.tokens.specs.Refusals.{kept_if_refused, unless_refused};
-ghost use Rattle.tokens.specs.Units.{highest_rate};
 
-use crate::draft::{Draft, MOST_FLOWS};
+use crate::draft::Draft;
 use crate::refusal::Refusal;
 use crate::row::Row;
+use arrayvec::ArrayVec;
 use tokens::units::HIGHEST_RATE;
 
 impl Draft {
@@ -17,9 +16,10 @@ impl Draft {
         ensures { profile result ≡ record { flows = row.flow ∷ []; cf0 = false } }
     {
         let flow = row.flow();
+        let mut rows = ArrayVec::new();
+        rows.push(row);
         Draft {
-            rows: [row; 8],
-            len: 1,
+            rows,
             cf0: false,
             rates: flow.green.rate + flow.yellow.rate,
             some_cf: flow.cf,
@@ -30,33 +30,13 @@ impl Draft {
     pub fn rows(&self) -> &[Row]
         ensures { result.now ≡ rows_of self.now }
     {
-        &self.rows[0..self.len]
+        self.rows.as_slice()
     }
 
     pub fn cf0(&self) -> bool
         ensures { result ≡ (profile self.now).cf0 }
     {
         self.cf0
-    }
-
-    // Refuses a flow that the draft cannot take.
-    fn check_row(&self, row: Row) -> Result<(), Refusal>
-        ensures value { told result ≡ unless_refused (add_causes (profile self.now) row.flow) tt }
-        ensures room { OnOk result (self.now.len < most_flows) }
-        ensures flags { OnOk result ((self.now.cf0 && (self.now.some_cf || row.flow.cf)) ≡ false) }
-        ensures rates { OnOk result (row.flow.green.rate + row.flow.yellow.rate + self.now.rates ≤ highest_rate) }
-    {
-        let flow = row.flow();
-        if self.len >= MOST_FLOWS {
-            return Err(Refusal::NinthFlow);
-        }
-        if self.cf0 && (self.some_cf | flow.cf) {
-            return Err(Refusal::BothFlags);
-        }
-        if flow.green.rate + flow.yellow.rate + self.rates > HIGHEST_RATE {
-            return Err(Refusal::SumOfRates);
-        }
-        Ok(())
     }
 
     /// Gives a further flow the next higher rank.
@@ -66,11 +46,19 @@ impl Draft {
         ensures refused { is_err result ≡ true → self.new ≡ self.old }
     {
         let flow = row.flow();
-        self.check_row(row)?;
-        self.rows[self.len] = row;
-        self.len += 1;
-        self.rates += flow.green.rate + flow.yellow.rate;
-        self.some_cf = self.some_cf | flow.cf;
+        let rates = self.rates + flow.green.rate + flow.yellow.rate;
+        if self.rows.is_full() {
+            return Err(Refusal::NinthFlow);
+        }
+        if self.cf0 && (self.some_cf || flow.cf) {
+            return Err(Refusal::BothFlags);
+        }
+        if rates > HIGHEST_RATE {
+            return Err(Refusal::SumOfRates);
+        }
+        self.rows.push(row);
+        self.rates = rates;
+        self.some_cf |= flow.cf;
         Ok(())
     }
 

@@ -1,38 +1,15 @@
-use Rattle.std.proofs.Common.{◌<◌, ◌&&◌, ◌||◌, length, sym, ap, ◌∙◌, arith, rules}
-use Rattle.envelopes.specs.Drafts.{add_causes, profile}
-use Rattle.envelopes.specs.Profiles.{all_rates}
-use Rattle.envelopes.proofs.Adding.{flag_with_one_more, rates_with_one_more, stored_one_more}
-use Rattle.envelopes.proofs.Causes.{answered_leaves, false_is_not_true}
+use Rattle.std.proofs.Common.{◌||◌, sym, ap, ◌∙◌, arith}
+use Rattle.envelopes.specs.Profiles.{all_rates, coupled}
+use Rattle.envelopes.specs.Stored.{flows}
+use Rattle.envelopes.proofs.Adding.{coupled_with_one_more, rates_with_one_more}
 use Rattle.envelopes.proofs.draft.Draft.add.Goals as goal
-use Rattle.std.proofs.lemmas.List.{length_push}
 
-pub invariant_of-self : goal.invariant_of-self
-invariant_of-self c =
+pub invariant_of-self-clause-rates_sum : goal.invariant_of-self-clause-rates_sum
+invariant_of-self-clause-rates_sum c =
     let was = c.args.self.now in
-    let within : c.args.self.now.len < length c.args.self.now.rows = search rules in
-    let stored = stored_one_more c.args.self.now.rows c.args.self.now.len c.args.row within in
-    let checked = c.in_ok-check_row.ensures in
-    let green = ap (λ f. f.green.rate) c.flow-flow.ensures in
-    let yellow = ap (λ f. f.yellow.rate) c.flow-flow.ensures in
-    let cf = ap (λ f. f.cf) c.flow-flow.ensures in
-    let rates = ap all_rates stored ∙ rates_with_one_more _ c.args.row.flow in
-    record {
-      some = omega arith;
-      few = omega (arith, checked.room);
-      counted = omega (arith, ap length stored ∙ length_push _ _, was.counted);
-      rates_sum = omega (arith, was.rates_sum);
-      rates_bound = omega (arith, checked.rates);
-      coupled_flag = flag_with_one_more _ _ _ _ _ was.coupled_flag cf stored;
-      not_both = ap (λ b. was.cf0 && (was.some_cf || b)) cf ∙ checked.flags;
-    }
+    omega (arith, was.rates_sum, ap (λ f. f.green.rate) c.flow-flow.ensures, ap (λ f. f.yellow.rate) c.flow-flow.ensures, ap (λ rows. all_rates (flows rows)) c.push.ensures.items, rates_with_one_more was.rows.items c.args.row)
 
-pub returns : goal.returns
-returns c =
+pub invariant_of-self-clause-coupled_flag : goal.invariant_of-self-clause-coupled_flag
+invariant_of-self-clause-coupled_flag c =
     let was = c.args.self.now in
-    let within : c.args.self.now.len < length c.args.self.now.rows = search rules in
-    let stored = stored_one_more c.args.self.now.rows c.args.self.now.len c.args.row within in
-    record {
-      value = c.in_ok-check_row.ensures.value;
-      after = ap (λ fs. record { flows = fs; cf0 = c.args.self.now.cf0 }) stored ∙ sym (answered_leaves tt tt (profile was) _ (add_causes (profile was) c.args.row.flow) (sym c.in_ok-check_row.ensures.value));
-      refused = λ e. absurd (false_is_not_true e);
-    }
+    ap (λ b. b || c.flow-flow.result.cf) was.coupled_flag ∙ ap (λ f. coupled (flows was.rows.items) || f.cf) c.flow-flow.ensures ∙ sym (coupled_with_one_more was.rows.items c.args.row) ∙ ap (λ rows. coupled (flows rows)) (sym c.push.ensures.items)
