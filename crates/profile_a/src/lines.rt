@@ -1,12 +1,14 @@
-// The lines that the program prints, but for a refusal, which is handed on.
-ghost use Rattle.std.specs.Prelude.{string_bytes};
-ghost use Rattle.envelopes.specs.Refusals.{told};
-ghost use Rattle.profile_a.specs.Lines.{rank_line, request_line};
+// The lines that the program prints. A line that ends in a refusal is written but for that, which is handed on and
+// written last.
+ghost use Rattle.std.specs.Prelude.{◌≡◌, ◌++◌, string_bytes, OnOk};
+ghost use Rattle.envelopes.specs.Refusals.{number as number_of, told};
+ghost use Rattle.profile_a.specs.Lines.{rank_line, refusal_line, request_line};
 ghost use Rattle.profile_a.specs.Stops.{GoesOn, Writes};
 
 use crate::stop::Stop;
 use envelopes::colour::{Colour, Request};
 use envelopes::refusal::Refusal;
+use std::alloc::AllocError;
 use std::fmt::Write;
 
 // A request by its number, its moment and its rank, and then its colour.
@@ -38,4 +40,10 @@ pub(crate) fn write_rank(
     let (green, yellow) = counts?;
     writeln!(out, "{green} green, {yellow} yellow grains")?;
     Ok(())
+}
+
+pub(crate) fn write_refusal(out: &mut String, refusal: Refusal) -> Result<(), AllocError>
+    ensures { OnOk result (string_bytes out.new ≡ string_bytes out.old ++ refusal_line (number_of refusal)) }
+{
+    writeln!(out, "refused {}", refusal.number())
 }

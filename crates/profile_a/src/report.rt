@@ -3,12 +3,11 @@ ghost use Rattle.std.specs.Prelude.{◌≡◌, ◌++◌, string_bytes, OnOk};
 ghost use Rattle.profile_a.specs.Day.{report_text};
 ghost use Rattle.profile_a.specs.Stops.{Writes};
 
-use crate::lines::{write_answer, write_rank};
+use crate::lines::{write_answer, write_rank, write_refusal};
 use crate::profile::draft_of_a;
 use crate::requests::six_requests;
 use crate::stop::Stop;
 use std::alloc::AllocError;
-use std::fmt::Write;
 use tokens::bucket::Bucket;
 
 // Writes the report up to a refusal, which is handed on.
@@ -35,7 +34,7 @@ pub(crate) fn write_report<B: Bucket>(
 {
     match run(buckets, out) {
         Ok(()) => Ok(()),
-        Err(Stop::Refused(refusal)) => writeln!(out, "refused {}", refusal.number()),
+        Err(Stop::Refused(refusal)) => write_refusal(out, refusal),
         Err(Stop::OutOfMemory(e)) => Err(e),
     }
 }
