@@ -13,7 +13,7 @@ mod editing;
 /// The most flows that a draft takes.
 pub const MOST_FLOWS: usize = 8;
 
-#[derive(Drop)]
+#[derive(Debug, Drop)]
 pub struct Draft {
     rows: ArrayVec<Row, MOST_FLOWS>,
     cf0: bool,

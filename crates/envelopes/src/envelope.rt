@@ -13,7 +13,7 @@ mod checks;
 pub mod shares;
 mod steps;
 
-#[derive(Drop)]
+#[derive(Debug, Drop)]
 pub struct Envelope {
     draft: Draft,
     latest: Time,

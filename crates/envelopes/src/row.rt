@@ -13,7 +13,7 @@ use tokens::units::HIGHEST_RATE;
 /// The largest volume of a flow's bucket, in tokens.
 pub const LARGEST_FLOW_VOLUME: u64 = 1_000_000_000;
 
-#[derive(Clone, Copy)]
+#[derive(Clone, Copy, Debug, PartialEq, Eq, Hash)]
 pub struct Row {
     flow: Flow,
     ghost rates: { flow.green.rate + flow.yellow.rate ≤ highest_rate },
