@@ -12,7 +12,7 @@ pub enum MomentRefusal {
 }
 
 /// Microseconds within one service day: since it began, which is a moment, or between two moments.
-#[derive(Clone, Copy)]
+#[derive(Clone, Copy, PartialEq, Eq, Debug)]
 pub struct Time {
     pub micros: u64,
     ghost within_day: { micros ≤ day_end },

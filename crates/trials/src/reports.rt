@@ -1,12 +1,12 @@
 // Reports on traces: inputs written out, good and damaged, and pseudo-random ones against the meter by windows.
 use crate::chance::Chance;
 use crate::windows::{FIGURE, Limits, Windows};
-use std::alloc::AllocGlobal;
+use std::alloc::{AllocError, AllocGlobal, Global};
 use std::fmt::Write;
 use std::process::Abort;
 use std::test::Fail;
 use tokens::calls::{Answer, Call};
-use traces::arguments::{Arguments, Form, Misuse, read_arguments};
+use traces::arguments::{Arguments, Form, read_arguments};
 use traces::report::{Ending, complaint, conform};
 
 const FORMS: [Form; 3] = [Form::Token, Form::Schedule, Form::Leaky];
@@ -99,8 +99,11 @@ fn lines_that_are_no_packets(rt: HostRuntime) -> Result<(), Fail> {
     FIGURE.expect(&rt, b"\xff\xfe 5\n", "", Ending::NotTwoNumbers(1))
 }
 
-fn misuse(rate: &str, burst: &str, form: &str) -> Option<&'static str> {
-    read_arguments(rate, burst, form).err().map(Misuse::text)
+fn misuse(heap: Global, rate: &str, burst: &str, form: &str) -> Result<Option<String>, AllocError> {
+    read_arguments(rate, burst, form)
+        .err()
+        .map(|misuse| misuse.to_string(heap))
+        .transpose()
 }
 
 #[test]
@@ -111,18 +114,18 @@ fn what_the_user_is_told(rt: HostRuntime) -> Result<(), Fail> {
         "line 12 is not two numbers, TOKENS up to 4294967295 and MOMENT, with one space between"
     );
     assert_eq!(rt;
-        misuse("x", "1", "token"),
+        misuse(rt.alloc(), "x", "1", "token")?.as_deref(),
         Some("RATE is not a whole number")
     );
     assert_eq!(rt;
-        misuse("1", "", "token"),
+        misuse(rt.alloc(), "1", "", "token")?.as_deref(),
         Some("BURST is not a whole number")
     );
     assert_eq!(rt;
-        misuse("1", "1", "tokens"),
+        misuse(rt.alloc(), "1", "1", "tokens")?.as_deref(),
         Some("FORM is none of token, schedule and leaky")
     );
-    assert_eq!(rt; misuse("1", "1", "schedule"), None);
+    assert_eq!(rt; misuse(rt.alloc(), "1", "1", "schedule")?.as_deref(), None);
     Ok(())
 }
 
