@@ -6,7 +6,7 @@ ghost use Rattle.envelopes.specs.Rows.{largest_flow_volume, nothing, row_causes,
 ghost use Rattle.tokens.specs.Refusals.{unless_refused};
 ghost use Rattle.tokens.specs.Units.{highest_rate};
 
-use crate::flow::Flow;
+use crate::flow::{Flow, Supply};
 use crate::refusal::Refusal;
 use tokens::units::HIGHEST_RATE;
 
@@ -25,13 +25,12 @@ pub struct Row {
     ghost yellow_volume: { flow.yellow.volume ≤ largest_flow_volume },
 }
 
-fn is_wrong_maximum(maximum: Option<u64>, rate: u64) -> bool
-    ensures { result ≡ wrong_maximum maximum rate }
+fn has_wrong_maximum(supply: Supply) -> bool
+    ensures { result ≡ wrong_maximum supply.maximum supply.rate }
 {
-    match maximum {
-        None => false,
-        Some(maximum) => maximum > HIGHEST_RATE || maximum < rate,
-    }
+    supply
+        .maximum
+        .is_some_and(|maximum| maximum > HIGHEST_RATE || maximum < supply.rate)
 }
 
 impl Row {
@@ -45,9 +44,7 @@ impl Row {
         {
             return Err(Refusal::Rate);
         }
-        if is_wrong_maximum(flow.green.maximum, flow.green.rate)
-            || is_wrong_maximum(flow.yellow.maximum, flow.yellow.rate)
-        {
+        if has_wrong_maximum(flow.green) || has_wrong_maximum(flow.yellow) {
             return Err(Refusal::Maximum);
         }
         if flow.green.volume > LARGEST_FLOW_VOLUME || flow.yellow.volume > LARGEST_FLOW_VOLUME {
