@@ -11,7 +11,7 @@ use Rattle.envelopes.specs.Refusals.{number, told}
 use Rattle.envelopes.specs.declared.colour.Request.{Request}
 use Rattle.envelopes.specs.declared.refusal.Refusal.{Refusal}
 use Rattle.envelopes.proofs.Causes.{answered_leaves}
-use Rattle.envelopes.proofs.Matched.{same_is_equal}
+use Rattle.envelopes.proofs.Matched.{same_decides}
 
 -- the checks alone tell nothing but whether the call is refused
 abbrev pub checked : List Cause → Told (Unit {0})
@@ -89,7 +89,7 @@ does_fit false fits = let z : ◌≡◌ {A = ℕ} 0 1 = cc in absurd (omega arit
 
 pub buckets_passed : (p : Profile) (s : Seen) (cs : List Cause) → answered tt ≡ checked (bucket_cause p s ∷ cs) → (s.volumes ≡ volumes p.flows) × (answered tt ≡ checked cs)
 buckets_passed p s cs passed =
-    let first = first_passed (bucket_cause p s) cs passed in (same_is_equal _ _ (does_fit _ first.0), first.1)
+    let first = first_passed (bucket_cause p s) cs passed in (sym ((same_decides _ _).0 (does_fit _ first.0)), first.1)
 
 pub rank_passed : (p : Profile) (rank : ℕ) (cs : List Cause) → answered tt ≡ checked (rank_cause p rank ∷ cs) → (1 ≤ rank) × (rank ≤ length p.flows) × (answered tt ≡ checked cs)
 rank_passed p rank cs passed =

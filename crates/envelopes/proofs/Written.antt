@@ -1,13 +1,11 @@
 -- Buckets written one after the other: what is told of them is the new up to a place and the old from there on.
 -- Assumes nothing.
-use Rattle.std.proofs.Common.{◌≡◌, ℕ, zero, suc, ◌+◌, ◌<◌, ◌≤◌, true, false, ◌&&◌, eqb, List, [], ◌∷◌, ◌++◌, map, length, get_or, take, drop, set, sym, refl, ap, ◌∙◌, append-nil, arith, length-set, length-take-le, take_all}
+use Rattle.std.proofs.Common.{◌≡◌, ℕ, zero, suc, ◌+◌, ◌<◌, ◌≤◌, List, [], ◌∷◌, ◌++◌, map, length, get_or, take, drop, set, sym, refl, ap, ◌∙◌, append-nil, arith, length-set, length-take-le, take_all}
 use lib.ListN.{length-map}
 use lib.Seq.{append_snoc, get_or_at, map-set, set_at}
 use Rattle.std.proofs.lemmas.List.{drop_all, drop_more, get_or-map, take_more}
-use Rattle.std.proofs.lemmas.Bool.Decides.{nat_tests}
 use Rattle.tokens.specs.Buckets.{added}
 use Rattle.tokens.specs.Units.{grains}
-use Rattle.envelopes.specs.Promises.{same}
 use Rattle.envelopes.specs.Stored.{flows}
 use Rattle.envelopes.specs.Updates.{column_volumes, offered, supply}
 use Rattle.envelopes.specs.declared.column.Column.{Column}
@@ -81,23 +79,3 @@ made_as_many tell bs column rows told = sym (length-map bs tell) ∙ ap length t
 pub volume_here : (column : Column) (rows : List Row) (i : ℕ) (r : Row) (f : Flow) (s : Supply) → r ≡ get_or rows i r → f ≡ r.flow → s ≡ supply column f → i < length rows → grains s.volume ≡ get_or (column_volumes column (flows rows)) i 0
 volume_here column rows i r f s row flow supplied within =
     ap (λ x. grains x.volume) supplied ∙ ap (λ x. grains (supply column x).volume) (flow ∙ ap (λ x. x.flow) row ∙ sym (get_or-map (λ x. x.flow) rows i r f within)) ∙ sym (get_or-map (λ x. grains (supply column x).volume) (flows rows) i f 0 (omega (arith, length-map rows (λ (x : Row). x.flow))))
-
--- Two lists of numbers compared place by place.
-
-equal : (m n : ℕ) → m ≡ n → eqb m n ≡ true
-equal m n e = grind (arith, nat_tests)
-
-unequal : (m n : ℕ) → (m ≡ n → ⊥) → eqb m n ≡ false
-unequal m n e = grind (arith, nat_tests, e)
-
-pub same_more : (ms ns : List ℕ) (i m n : ℕ) → m ≡ get_or ms i 0 → n ≡ get_or ns i 0 → m ≡ n → i < length ms → i < length ns → same (drop i ms) (drop i ns) ≡ same (drop (i + 1) ms) (drop (i + 1) ns)
-same_more ms ns i m n here there as_big in_ms in_ns =
-    let firsts : get_or ms i 0 ≡ get_or ns i 0 = sym here ∙ as_big ∙ there in
-    ap (λ xs. same xs (drop i ns)) (drop_more ms i 0 in_ms) ∙ ap (same (get_or ms i 0 ∷ drop (i + 1) ms)) (drop_more ns i 0 in_ns) ∙ ap (λ b. b && same (drop (i + 1) ms) (drop (i + 1) ns)) (equal _ _ firsts)
-
-pub same_no_more : (ms ns : List ℕ) (i m n : ℕ) → m ≡ get_or ms i 0 → n ≡ get_or ns i 0 → (m ≡ n → ⊥) → i < length ms → i < length ns → same (drop i ms) (drop i ns) ≡ false
-same_no_more ms ns i m n here there differ in_ms in_ns =
-    ap (λ xs. same xs (drop i ns)) (drop_more ms i 0 in_ms) ∙ ap (same (get_or ms i 0 ∷ drop (i + 1) ms)) (drop_more ns i 0 in_ns) ∙ ap (λ b. b && same (drop (i + 1) ms) (drop (i + 1) ns)) (unequal _ _ (λ e. differ (here ∙ e ∙ sym there)))
-
-pub same_all : (ms ns : List ℕ) (i : ℕ) → length ms ≤ i → length ns ≤ i → same (drop i ms) (drop i ns) ≡ true
-same_all ms ns i past_ms past_ns = ap (λ xs. same xs (drop i ns)) (drop_all i ms past_ms) ∙ ap (same []) (drop_all i ns past_ns)

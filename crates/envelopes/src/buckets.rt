@@ -15,10 +15,11 @@ pub(crate) fn offer_each<B: Bucket>(buckets: &mut [B], amounts: [u64; 8])
     ensures volumes { map B.Bucket.volume buckets.new ≡ map B.Bucket.volume buckets.old }
     ensures counts { map B.Bucket.count buckets.new ≡ offered (map B.Bucket.volume buckets.old) (map B.Bucket.count buckets.old) amounts }
 {
-    for i in 0..buckets.len() {
-        let mut bucket = buckets[i];
-        bucket.offer(amounts[i]);
-        buckets[i] = bucket;
+    // by place: nothing is known of the buckets after a zip over `iter_mut`
+    for (place, bucket) in buckets.iter_mut().enumerate() {
+        let mut told = *bucket;
+        told.offer(amounts[place]);
+        *bucket = told;
     }
 }
 
@@ -28,38 +29,25 @@ pub(crate) fn make_each<B: Bucket>(column: Column, rows: &[Row], buckets: &mut [
     ensures volumes { map B.Bucket.volume buckets.new ≡ column_volumes column (flows rows.now) }
     ensures counts { map B.Bucket.count buckets.new ≡ column_volumes column (flows rows.now) }
 {
-    for i in 0..rows.len() {
-        let row = rows[i];
-        buckets[i] = B::make(column.supply(row.flow()).volume as u32);
+    // by place, as in `offer_each`
+    for (place, bucket) in buckets.iter_mut().enumerate() {
+        *bucket = B::make(column.supply(rows[place].flow()).volume as u32);
     }
-}
-
-// Whether the buckets have the rows' volumes.
-pub(crate) fn have_volumes<B: Bucket>(column: Column, rows: &[Row], buckets: &[B]) -> bool
-    requires { length buckets.now ≡ length rows.now }
-    ensures { result ≡ same_numbers (column_volumes column (flows rows.now)) (map B.Bucket.volume buckets.now) }
-{
-    for i in 0..rows.len() {
-        let row = rows[i];
-        let volume = GRAINS_PER_TOKEN * column.supply(row.flow()).volume;
-        if volume != buckets[i].volume() {
-            return false;
-        }
-    }
-    true
 }
 
 // Whether there are two buckets for each row, with the rows' volumes: the green ones by rank, then the yellow ones.
 pub(crate) fn fit<B: Bucket>(rows: &[Row], buckets: &[B]) -> bool
-    requires { length rows.now ≤ most_flows }
     ensures { result ≡ same_numbers (volumes_of (flows rows.now)) (map B.Bucket.volume buckets.now) }
 {
-    let n = rows.len();
-    if buckets.len() != n + n {
-        return false;
-    }
-    have_volumes(Column::Green, rows, &buckets[0..n])
-        && have_volumes(Column::Yellow, rows, &buckets[n..n + n])
+    let greens = rows
+        .iter()
+        .map(|row| GRAINS_PER_TOKEN * row.flow().green.volume);
+    let yellows = rows
+        .iter()
+        .map(|row| GRAINS_PER_TOKEN * row.flow().yellow.volume);
+    greens
+        .chain(yellows)
+        .eq(buckets.iter().map(|bucket| bucket.volume()))
 }
 
 // Makes all buckets anew, full, by the rows.

@@ -1,18 +1,15 @@
-use Rattle.std.proofs.Common.{length, sym}
-use Rattle.envelopes.proofs.Halves.{first_half, second_half_before}
-use Rattle.envelopes.proofs.Matched.{both_fit, greens_do_not_fit, wrong_number}
+use Rattle.std.proofs.Common.{◌++◌, map, ap, ap₂, ◌∙◌, rules}
+use Rattle.std.proofs.lemmas.Iterator.{YieldsList-from_map, YieldsList-from_slice}
+use Rattle.std.proofs.lemmas.Iterator.Consumers.{YieldsList-at, YieldsList-from_chain}
+use Rattle.tokens.specs.Units.{grains}
+use Rattle.envelopes.specs.Promises.{same}
+use Rattle.envelopes.specs.declared.flow.Flow.{Flow}
+use Rattle.envelopes.specs.declared.row.Row.{Row}
+use Rattle.envelopes.proofs.Matched.{read_by_row, same_from_eq}
 use Rattle.envelopes.proofs.buckets.fit.Goals as goal
 
-pub returns-then-buckets-n : goal.returns-then-buckets-n
-returns-then-buckets-n g c = sym (wrong_number _ _ _ c.if-buckets-n.true)
-
-pub returns-then-have_volumes : goal.returns-then-have_volumes
-returns-then-have_volumes g c =
-    let even = c.if-buckets-n.false in
-    let n = length c.args.rows.now in
-    both_fit g.B.Bucket.volume c.args.rows.now _ _ _ _ even (first_half n _ even) (second_half_before n _ even) c.if-have_volumes.ensures c.have_volumes-then-have_volumes.ensures
-
-pub returns-else-have_volumes : goal.returns-else-have_volumes
-returns-else-have_volumes g c =
-    let even = c.if-buckets-n.false in
-    greens_do_not_fit g.B.Bucket.volume c.args.rows.now _ _ _ even (first_half (length c.args.rows.now) _ even) c.if-have_volumes.ensures c.if-have_volumes.false
+pub returns : goal.returns
+returns g c =
+    let rows = c.args.rows.now in
+    let told = same_from_eq _ c.eq.ensures.ran (YieldsList-from_chain (YieldsList-at c.chain.ensures.first (YieldsList-from_map _ (λ (r : Row). grains r.flow.green.volume) (YieldsList-at c.map-greens.ensures.source (YieldsList-from_slice rows c.iter.ensures.rest)) c.map-greens.ensures.closure (λ x r q k. search rules))) (YieldsList-at c.chain.ensures.second (YieldsList-from_map _ (λ (r : Row). grains r.flow.yellow.volume) (YieldsList-at c.map-yellows.ensures.source (YieldsList-from_slice rows c.iter-2.ensures.rest)) c.map-yellows.ensures.closure (λ x r q k. search rules))) c.chain.ensures.first_done c.chain.ensures.second_done) (YieldsList-from_map _ g.B.Bucket.volume (YieldsList-at c.map.ensures.source (YieldsList-from_slice c.args.buckets.now c.iter-3.ensures.rest)) c.map.ensures.closure (λ x r q k. search rules)) in
+    told ∙ ap (λ vs. same vs (map g.B.Bucket.volume c.args.buckets.now)) (ap₂ (λ xs ys. xs ++ ys) (read_by_row (λ (f : Flow). grains f.green.volume) rows) (read_by_row (λ (f : Flow). grains f.yellow.volume) rows))

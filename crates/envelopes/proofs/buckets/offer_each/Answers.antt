@@ -1,10 +1,10 @@
-use Rattle.std.proofs.Common.{◌<◌, ◌≤◌, length, sym, refl, ◌∙◌, arith, rules}
+use Rattle.std.proofs.Common.{◌<◌, ◌≤◌, length, sym, refl, ap, ◌∙◌, arith, rules}
 use lib.ListN.{length-map}
 use Rattle.envelopes.proofs.Written.{all_written, none_written, offered_as_many, offered_here, still_old, written_more}
 use Rattle.envelopes.proofs.buckets.offer_each.Goals as goal
 
-pub loop-i-init : goal.loop-i-init
-loop-i-init g c =
+pub loop-place-init : goal.loop-place-init
+loop-place-init g c =
     let bs = c.args.buckets.now in
     let room : length c.args.buckets.now ≤ length c.args.amounts = search rules in
     let as_many_volumes = length-map bs g.B.Bucket.volume in
@@ -13,25 +13,25 @@ loop-i-init g c =
       none_written _ _ _ bs refl (offered_as_many _ _ _ (as_many_volumes ∙ sym as_many_counts) (omega arith) ∙ as_many_counts),
     )
 
-pub loop-i-preserved : goal.loop-i-preserved
-loop-i-preserved g c =
+pub loop-place-preserved : goal.loop-place-preserved
+loop-place-preserved g c =
     let bs = c.args.buckets.now in
-    let inv = c.loop-i.invariant in
-    let within : c.loop-i.i < length c.loop-i.buckets = search rules in
-    let room : c.loop-i.i < length c.args.amounts = search rules in
+    let inv = c.loop-place.invariant in
+    let within : c.loop-place.place < length c.loop-place.buckets = search rules in
+    let room : c.loop-place.place < length c.args.amounts = search rules in
     let as_many_volumes = length-map bs g.B.Bucket.volume in
     let as_many_counts = length-map bs g.B.Bucket.count in
-    let volume = still_old _ _ _ _ _ inv.0 within _ c.index-buckets-i.is in
-    let count = still_old _ _ _ _ _ inv.1 within _ c.index-buckets-i.is in
-    let told = offered_here _ _ c.args.amounts c.loop-i.i _ _ _ volume count c.offer.ensures.count (omega arith) (omega arith) room in (
+    let volume = ap g.B.Bucket.volume (sym c.index-buckets-place.is) ∙ still_old _ _ _ _ _ inv.0 within _ c.index-buckets-place.is in
+    let count = ap g.B.Bucket.count (sym c.index-buckets-place.is) ∙ still_old _ _ _ _ _ inv.1 within _ c.index-buckets-place.is in
+    let told = offered_here _ _ c.args.amounts c.loop-place.place _ _ _ volume count c.offer.ensures.count (omega arith) (omega arith) room in (
       written_more _ _ _ _ _ inv.0 within _ (c.offer.ensures.volume ∙ volume),
       written_more _ _ _ _ _ inv.1 within _ told,
     )
 
 pub returns : goal.returns
 returns g c =
-    let past : length c.loop-i.buckets ≤ c.loop-i.i = search rules in
+    let past : length c.loop-place.buckets ≤ c.loop-place.place = search rules in
     record {
-      volumes = all_written _ _ _ _ _ past c.loop-i.invariant.0;
-      counts = all_written _ _ _ _ _ past c.loop-i.invariant.1;
+      volumes = all_written _ _ _ _ _ past c.loop-place.invariant.0;
+      counts = all_written _ _ _ _ _ past c.loop-place.invariant.1;
     }

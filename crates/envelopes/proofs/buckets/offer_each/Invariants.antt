@@ -3,10 +3,10 @@ use Rattle.envelopes.specs.Updates.{offered}
 use Rattle.envelopes.proofs.Written.{Written}
 use Rattle.envelopes.proofs.buckets.offer_each.Given as goal
 
-abbrev pub invariant-loop-i : goal.invariant-loop-i
-invariant-loop-i g l =
+abbrev pub invariant-loop-place : goal.invariant-loop-place
+invariant-loop-place g l =
     let volume = g.B.Bucket.volume in
     let count = g.B.Bucket.count in
     let volumes = map volume l.initial.buckets in
     let counts = map count l.initial.buckets in
-    Written volume volumes volumes l.buckets l.i × Written count (offered volumes counts l.amounts) counts l.buckets l.i
+    Written volume volumes volumes l.buckets l.place × Written count (offered volumes counts l.amounts) counts l.buckets l.place
