@@ -1,64 +1,64 @@
 -- Going through a column from the highest rank down. Assumes nothing.
-use Rattle.std.proofs.Common.{◌≡◌, ℕ, zero, suc, ◌+◌, ◌<◌, ◌≤◌, cond, List, [], ◌∷◌, map, length, get_or, take, drop, set, sym, refl, ap, ◌∙◌, subst, arith, length-set, length-take}
+use Rattle.std.proofs.Common.{◌≡◌, ℕ, zero, suc, ◌+◌, ◌<◌, ◌≤◌, cond, List, [], ◌∷◌, map, length, get_or, take, drop, set, sym, ap, ◌∙◌, subst, arith, length-set, length-take}
 use lib.ListN.{length-map}
-use lib.Seq.{take-set-lt}
-use Rattle.std.proofs.lemmas.List.{drop_all, drop-set}
+use lib.Seq.{map-set, take-set-lt}
+use Rattle.std.proofs.lemmas.List.{drop_all, drop-set, get_or-map}
 use Rattle.tokens.specs.Units.{highest_rate}
 use Rattle.envelopes.specs.Growth.{added, coming, handed_down, overflow, overflows}
 use Rattle.envelopes.specs.Income.{income}
 use Rattle.envelopes.specs.Profiles.{maximum_or_0}
 use Rattle.envelopes.specs.Rows.{largest_flow_volume}
 use Rattle.envelopes.specs.Stored.{flows}
-use Rattle.envelopes.specs.Updates.{additions, lane, lanes}
+use Rattle.envelopes.specs.Updates.{additions, additions_of, lane, lanes, overflows_of}
 use Rattle.envelopes.specs.declared.column.Column.{Column}
 use Rattle.envelopes.specs.declared.column.Column.TheVariants.{Green, Yellow}
 use Rattle.envelopes.specs.declared.flow.Flow.{Flow}
 use Rattle.envelopes.specs.declared.lane.Lane.{Lane}
+use Rattle.envelopes.specs.declared.lane.Settled.{Settled}
 use Rattle.envelopes.specs.declared.row.Row.{Row}
 use Rattle.envelopes.proofs.Columns.{never_more_than_income}
-use Rattle.envelopes.proofs.Written.{told_here}
+use Rattle.envelopes.proofs.Descending.{Both, Descending, Turn}
+use Rattle.envelopes.proofs.Written.{nothing, told_here}
 
 -- the ranks from place `i` up are settled
-pub record Flowing (time top : ℕ) (ls : List Lane) (n i handed : ℕ) (adds over : List ℕ) : Type 0 where
+pub record Flowing (time top : ℕ) (ls : List Lane) (n i handed : ℕ) (settled : List Settled) : Type 0 where
   pub handed_is : handed ≡ handed_down time top (drop i ls)
-  pub adds_are : drop i (take n adds) ≡ additions time top (drop i ls)
-  pub over_is : drop i (take n over) ≡ overflows time top (drop i ls)
-  pub adds_room : n ≤ length adds
-  pub over_room : n ≤ length over
+  pub added_are : drop i (take n (additions_of settled)) ≡ additions time top (drop i ls)
+  pub over_are : drop i (take n (overflows_of settled)) ≡ overflows time top (drop i ls)
+  pub room : n ≤ length settled
 
-past_the_end : (n : ℕ) (xs : List ℕ) → drop n (take n xs) ≡ []
-past_the_end n xs = drop_all n (take n xs) (omega (arith, length-take n xs))
+past_the_end : (n i : ℕ) (xs : List ℕ) → i ≡ n → drop i (take n xs) ≡ []
+past_the_end n i xs all = drop_all i (take n xs) (omega (arith, length-take n xs))
 
-pub flowing_none : (time top : ℕ) (ls : List Lane) (n : ℕ) (adds over : List ℕ) → length ls ≤ n → n ≤ length adds → n ≤ length over → Flowing time top ls n n top adds over
-flowing_none time top ls n adds over short adds_room over_room =
-    let above = drop_all n ls short in
+pub flowing_none : (time top : ℕ) (ls : List Lane) (n i : ℕ) (settled : List Settled) → i ≡ n → length ls ≤ n → n ≤ length settled → Flowing time top ls n i top settled
+flowing_none time top ls n i settled all short room =
+    let above = drop_all i ls (omega arith) in
     record {
       handed_is = sym (ap (handed_down time top) above);
-      adds_are = past_the_end n adds ∙ sym (ap (additions time top) above);
-      over_is = past_the_end n over ∙ sym (ap (overflows time top) above);
-      adds_room = adds_room;
-      over_room = over_room;
+      added_are = past_the_end n i _ all ∙ sym (ap (additions time top) above);
+      over_are = past_the_end n i _ all ∙ sym (ap (overflows time top) above);
+      room = room;
     }
 
 -- one place set, below the places that are settled
-one_more_set : (xs ys : List ℕ) (n j y : ℕ) → j < n → n ≤ length xs → drop (j + 1) (take n xs) ≡ ys → drop j (take n (set xs j y)) ≡ y ∷ ys
-one_more_set xs ys n j y below room above =
-    ap (drop j) (take-set-lt n xs j y below) ∙ drop-set (take n xs) j y (omega (arith, length-take n xs)) ∙ ap (λ zs. y ∷ zs) above
+one_more_set : (tell : Settled → ℕ) (settled : List Settled) (ys : List ℕ) (n j : ℕ) (s : Settled) → j < n → n ≤ length settled → drop (j + 1) (take n (map tell settled)) ≡ ys → drop j (take n (map tell (set settled j s))) ≡ tell s ∷ ys
+one_more_set tell settled ys n j s below room above =
+    ap (λ xs. drop j (take n xs)) (map-set tell settled j s) ∙ ap (drop j) (take-set-lt n (map tell settled) j (tell s) below) ∙ drop-set (take n (map tell settled)) j (tell s) (omega (arith, length-take n (map tell settled), length-map settled tell)) ∙ ap (λ zs. tell s ∷ zs) above
 
-module _ (time top : ℕ) (ls : List Lane) (n i j handed : ℕ) (adds over : List ℕ) (next : i ≡ j + 1) (settled : Flowing time top ls n i handed adds over) (l : Lane) (here : drop j ls ≡ l ∷ drop (j + 1) ls) where
-  so_far : Flowing time top ls n (j + 1) handed adds over
-  so_far = subst (λ (k : ℕ). Flowing time top ls n k handed adds over) next settled
+module _ (time top : ℕ) (ls : List Lane) (n i j handed : ℕ) (settled : List Settled) (next : i ≡ j + 1) (flowing : Flowing time top ls n i handed settled) (l : Lane) (here : drop j ls ≡ l ∷ drop (j + 1) ls) where
+  so_far : Flowing time top ls n (j + 1) handed settled
+  so_far = subst (λ (k : ℕ). Flowing time top ls n k handed settled) next flowing
 
-  pub flowing_more : (h a o : ℕ) → a ≡ added time handed l → o ≡ overflow time handed l → h ≡ cond l.withheld 0 (overflow time handed l) → j < n → Flowing time top ls n j h (set adds j a) (set over j o)
-  flowing_more h a o adds_more over_more hands_down below =
+  pub flowing_more : (s : Settled) → s.added ≡ added time handed l → s.overflow ≡ overflow time handed l → s.handed ≡ cond l.withheld 0 (overflow time handed l) → j < n → (k : ℕ) → k ≡ j → Flowing time top ls n k s.handed (set settled j s)
+  flowing_more s adds_more over_more hands_down below k at_j =
       let from = so_far.handed_is in
-      record {
+      let more : Flowing time top ls n j s.handed (set settled j s) = record {
         handed_is = hands_down ∙ ap (λ x. cond l.withheld 0 (overflow time x l)) from ∙ sym (ap (handed_down time top) here);
-        adds_are = one_more_set adds _ n j a below so_far.adds_room so_far.adds_are ∙ ap (λ x. x ∷ additions time top (drop (j + 1) ls)) (adds_more ∙ ap (λ x. added time x l) from) ∙ sym (ap (additions time top) here);
-        over_is = one_more_set over _ n j o below so_far.over_room so_far.over_is ∙ ap (λ x. x ∷ overflows time top (drop (j + 1) ls)) (over_more ∙ ap (λ x. overflow time x l) from) ∙ sym (ap (overflows time top) here);
-        adds_room = omega (arith, so_far.adds_room, length-set adds j a);
-        over_room = omega (arith, so_far.over_room, length-set over j o);
-      }
+        added_are = one_more_set (λ x. x.added) settled _ n j s below so_far.room so_far.added_are ∙ ap (λ x. x ∷ additions time top (drop (j + 1) ls)) (adds_more ∙ ap (λ x. added time x l) from) ∙ sym (ap (additions time top) here);
+        over_are = one_more_set (λ x. x.overflow) settled _ n j s below so_far.room so_far.over_are ∙ ap (λ x. x ∷ overflows time top (drop (j + 1) ls)) (over_more ∙ ap (λ x. overflow time x l) from) ∙ sym (ap (overflows time top) here);
+        room = omega (arith, so_far.room, length-set settled j s);
+      } in
+      subst (λ (m : ℕ). Flowing time top ls n m s.handed (set settled j s)) (sym at_j) more
 
   income_above : (i : ℕ) (ms : List Lane) → income time top (drop i ms) ≤ income time top ms
   income_above zero ms = omega arith
@@ -94,13 +94,17 @@ lanes_are_few column (x ∷ rows) [] cs = omega arith
 lanes_are_few column (x ∷ rows) (o ∷ os) [] = omega arith
 lanes_are_few column (x ∷ rows) (o ∷ os) (c ∷ cs) = omega (arith, lanes_are_few column rows os cs)
 
--- as the code reads it: a row, its flow, and a bucket that is told by its count
-pub lane_read : {B : Type 0} (count : B → ℕ) (column : Column) (rows : List Row) (os : List ℕ) (bs : List B) (j : ℕ) (r : Row) (f : Flow) (b : B) (c : ℕ) (l : Lane) → r ≡ get_or rows j r → f ≡ r.flow → b ≡ get_or bs j b → c ≡ count b → l ≡ lane column f (get_or os j 0) c → j < length rows → j < length os → j < length bs → drop j (lanes column (flows rows) os (map count bs)) ≡ l ∷ drop (j + 1) (lanes column (flows rows) os (map count bs))
-lane_read count column rows os bs j r f b c l row flow bucket counted made in_rows in_os in_bs =
-    let held : c ≡ get_or (map count bs) j 0 = told_here count bs j b c counted bucket in_bs in
+-- as the code reads it: a row, its flow, what the green column settled, and a bucket that is told by its count
+pub lane_read : {B : Type 0} (count : B → ℕ) (column : Column) (rows : List Row) (greens : List Settled) (bs : List B) (n j : ℕ) (s t : Both Row B) (r : Row) (f : Flow) (b : B) (c : ℕ) (l : Lane) → Descending rows bs n s → Turn rows bs n j r b t → length rows ≤ length greens → f ≡ r.flow → c ≡ count b → l ≡ lane column f (get_or greens j nothing).overflow c → drop j (lanes column (flows rows) (overflows_of greens) (map count bs)) ≡ l ∷ drop (j + 1) (lanes column (flows rows) (overflows_of greens) (map count bs))
+lane_read count column rows greens bs n j s t r f b c l down turn room flow counted made =
+    let in_rows : j < length rows = omega (arith, turn.next, down.in_xs) in
+    let in_bs : j < length bs = omega (arith, turn.next, down.in_ys) in
+    let over = sym (get_or-map (λ (s : Settled). s.overflow) greens j nothing 0 (omega arith)) in
+    let in_over : j < length (overflows_of greens) = omega (arith, length-map greens (λ (s : Settled). s.overflow)) in
+    let held : c ≡ get_or (map count bs) j 0 = told_here count bs j b c counted turn.second in_bs in
     let in_counts : j < length (map count bs) = omega (arith, length-map bs count) in
-    let whole = lane_at column rows os (map count bs) j r (get_or os j 0) c row refl held in_rows in_os in_counts in
-    whole ∙ ap (λ x. x ∷ drop (j + 1) (lanes column (flows rows) os (map count bs))) (ap (λ x. lane column x (get_or os j 0) c) (sym flow) ∙ sym made)
+    let whole = lane_at column rows (overflows_of greens) (map count bs) j r _ c turn.first over held in_rows in_over in_counts in
+    whole ∙ ap (λ x. x ∷ drop (j + 1) (lanes column (flows rows) (overflows_of greens) (map count bs))) (ap (λ x. lane column x (get_or greens j nothing).overflow c) (sym flow) ∙ sym made)
 
 -- what a row keeps to, a lane made of it keeps to
 pub maximum_of_lane : (column : Column) (r : Row) (f : Flow) (o c : ℕ) (l : Lane) → f ≡ r.flow → l ≡ lane column f o c → maximum_or_0 l.supply.maximum ≤ highest_rate

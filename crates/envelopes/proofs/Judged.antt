@@ -1,17 +1,16 @@
 -- An update and then a colouring are what a judge call promises. Assumes nothing.
-use Rattle.std.proofs.Common.{◌≡◌, ℕ, ◌+◌, ◌-◌, ◌≤◌, List, map, length, get_or, take, drop, sym, refl, ap, ◌∙◌, arith, get_or-drop, get_or-take, take_at, drop_at}
-use Rattle.envelopes.specs.Colouring.{colour, place, spent}
+use Rattle.std.proofs.Common.{◌≡◌, ℕ, ◌*◌, ◌-◌, List, length, drop, ap, ◌∙◌, take_at, drop_at}
+use Rattle.envelopes.specs.Colouring.{colour, spent}
 use Rattle.envelopes.specs.Growth.{Counts}
 use Rattle.envelopes.specs.Profiles.{Profile}
-use Rattle.envelopes.specs.Promises.{Seen, by_rank, colour_at, counts_at, in_a_row, judged, parted, rank_counts, volumes}
+use Rattle.envelopes.specs.Promises.{Seen, by_rank, colour_at, counts_at, in_a_row, judged, parted, volumes}
 use Rattle.envelopes.specs.declared.colour.Colour.{Colour}
 use Rattle.envelopes.specs.declared.colour.Request.{Request}
 use Rattle.envelopes.proofs.Fitting.{growth_fits}
 use Rattle.envelopes.proofs.Stories.{Fits}
 use Rattle.envelopes.proofs.Gained.{parted_fits}
-use Rattle.envelopes.proofs.Written.{told_here}
 
-module _ (p : Profile) (s : Seen) (fit : s.volumes ≡ volumes p.flows) (even : length s.counts ≡ length p.flows + length p.flows) (q : Request) where
+module _ (p : Profile) (s : Seen) (fit : s.volumes ≡ volumes p.flows) (even : length s.counts ≡ 2 * length p.flows) (q : Request) where
   abbrev n : ℕ
   n = length p.flows
 
@@ -19,18 +18,15 @@ module _ (p : Profile) (s : Seen) (fit : s.volumes ≡ volumes p.flows) (even : 
   now = counts_at p s q.moment
 
   now_fits : Fits p now
-  now_fits = growth_fits p (by_rank p s) (parted_fits p 0 n refl s.volumes s.counts fit even) (q.moment - s.latest)
+  now_fits = growth_fits p (by_rank p s) (parted_fits p s.volumes s.counts fit even) (q.moment - s.latest)
 
   abbrev of_both : List ℕ → List ℕ → Counts
   of_both greens yellows = record { greens = greens; yellows = yellows }
 
-  back_by_rank : parted n (in_a_row now) ≡ now
-  back_by_rank =
-      ap (λ xs. of_both xs (drop n (in_a_row now))) (take_at now.greens now.yellows n now_fits.greens) ∙ ap (of_both now.greens) (drop_at now.greens now.yellows n now_fits.greens)
-
   module _ (m : ℕ) (as_many : m ≡ n) (counts : List ℕ) (grew : counts ≡ in_a_row now) where
     by_rank_now : parted m counts ≡ now
-    by_rank_now = ap (λ i. parted i counts) as_many ∙ ap (parted n) grew ∙ back_by_rank
+    by_rank_now =
+        ap (λ i. parted i counts) as_many ∙ ap (parted n) grew ∙ ap (λ xs. of_both xs (drop n (in_a_row now))) (take_at now.greens now.yellows n now_fits.greens) ∙ ap (of_both now.greens) (drop_at now.greens now.yellows n now_fits.greens)
 
     module _ (given : Colour) (told : given ≡ colour q (parted m counts)) where
       pub colour_told : given ≡ colour_at p s q
@@ -46,16 +42,3 @@ seen_of latest vs cs = record { latest = latest; volumes = vs; counts = cs }
 pub seen_by_parts : (latest : ℕ) (vs cs : List ℕ) (s : Seen) → latest ≡ s.latest → vs ≡ s.volumes → cs ≡ s.counts → seen_of latest vs cs ≡ s
 seen_by_parts latest vs cs s same_latest same_volumes same_counts =
     ap (λ t. seen_of t vs cs) same_latest ∙ ap (λ xs. seen_of s.latest xs cs) same_volumes ∙ ap (seen_of s.latest s.volumes) same_counts
-
-abbrev pair : ℕ → ℕ → ℕ × ℕ
-pair a b = (a, b)
-
-abbrev pair_with : ℕ → ℕ → ℕ × ℕ
-pair_with b a = (a, b)
-
--- a rank's two counts, read from its two buckets
-pub counts_read : {B : Type 0} (count : B → ℕ) (bs : List B) (m rank green yellow : ℕ) (g y : B) → 1 ≤ rank → rank ≤ m → length bs ≡ m + m → g ≡ get_or bs (rank - 1) g → y ≡ get_or bs (m + (rank - 1)) y → green ≡ count g → yellow ≡ count y → pair green yellow ≡ rank_counts (parted m (map count bs)) rank
-counts_read count bs m rank green yellow g y some bound even here there green_is yellow_is =
-    let first : green ≡ get_or (take m (map count bs)) (place rank) 0 = told_here count bs (rank - 1) g green green_is here (omega arith) ∙ sym (get_or-take m (map count bs) (rank - 1) 0 (omega arith)) in
-    let second : yellow ≡ get_or (drop m (map count bs)) (place rank) 0 = told_here count bs (m + (rank - 1)) y yellow yellow_is there (omega arith) ∙ sym (get_or-drop m (map count bs) (rank - 1) 0) in
-    ap (pair_with yellow) first ∙ ap (pair (get_or (take m (map count bs)) (place rank) 0)) second

@@ -4,12 +4,12 @@ pub mod Bounds
 pub mod Causes
 pub mod Columns
 pub mod Declared
+pub mod Descending
 pub mod Drafted
 pub mod Fitting
 pub mod Flowing
 pub mod Gained
 pub mod Guaranteed
-pub mod Halves
 pub mod Independence
 pub mod Judged
 pub mod Kept

@@ -1,5 +1,5 @@
 -- Two lists of numbers compared as wholes. Assumes nothing.
-use Rattle.std.proofs.Common.{◌≡◌, ℕ, ◌+◌, Bool, true, false, eqb, List, [], ◌∷◌, map, length, get_or, Decides, IfSome, MatchOption, None, Some, Option, sym, refl, ap, ◌∙◌, arith, rules, length-append}
+use Rattle.std.proofs.Common.{◌≡◌, ℕ, ◌*◌, Bool, true, false, eqb, List, [], ◌∷◌, map, length, get_or, Decides, IfSome, MatchOption, None, Some, Option, sym, refl, ap, ◌∙◌, arith, rules, length-append}
 use Rattle.std.proofs.lemmas.Bool.{false≢true}
 use Rattle.std.proofs.lemmas.Bool.Decides.{Decides-eqb, same_from_decides}
 use Rattle.std.proofs.lemmas.Iterator.{YieldsList}
@@ -60,10 +60,10 @@ read_by_row f [] = refl
 read_by_row f (r ∷ rows) = ap (λ ns. f r.flow ∷ ns) (read_by_row f rows)
 
 -- there are two volumes for each flow
-as_many_in_all : (fs : List Flow) → length (volumes fs) ≡ length fs + length fs
+as_many_in_all : (fs : List Flow) → length (volumes fs) ≡ 2 * length fs
 as_many_in_all fs =
     let both = length-append (column_volumes Green fs) (column_volumes Yellow fs) in
     omega (arith, length-map fs (λ f. grains f.green.volume), length-map fs (λ f. grains f.yellow.volume))
 
-pub fitting_are_even : {B : Type 0} (volume : B → ℕ) (bs : List B) (fs : List Flow) → map volume bs ≡ volumes fs → length bs ≡ length fs + length fs
+pub fitting_are_even : {B : Type 0} (volume : B → ℕ) (bs : List B) (fs : List Flow) → map volume bs ≡ volumes fs → length bs ≡ 2 * length fs
 fitting_are_even volume bs fs fits = sym (length-map bs volume) ∙ ap length fits ∙ as_many_in_all fs

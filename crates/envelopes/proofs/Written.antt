@@ -7,10 +7,11 @@ use Rattle.std.proofs.lemmas.List.{drop_all, drop_more, get_or-map, take_more}
 use Rattle.tokens.specs.Buckets.{added}
 use Rattle.tokens.specs.Units.{grains}
 use Rattle.envelopes.specs.Stored.{flows}
-use Rattle.envelopes.specs.Updates.{column_volumes, offered, supply}
+use Rattle.envelopes.specs.Updates.{additions_of, column_volumes, offered, supply}
 use Rattle.envelopes.specs.declared.column.Column.{Column}
 use Rattle.envelopes.specs.declared.flow.Flow.{Flow}
 use Rattle.envelopes.specs.declared.flow.Supply.{Supply}
+use Rattle.envelopes.specs.declared.lane.Settled.{Settled}
 use Rattle.envelopes.specs.declared.row.Row.{Row}
 
 -- what is told of one bucket is what the list tells at its place
@@ -66,8 +67,14 @@ offered_at (v ∷ vs) (c ∷ cs) [] i in_vs in_cs in_as = absurd (omega arith)
 offered_at (v ∷ vs) (c ∷ cs) (a ∷ as') zero in_vs in_cs in_as = refl
 offered_at (v ∷ vs) (c ∷ cs) (a ∷ as') (suc i) in_vs in_cs in_as = offered_at vs cs as' i (omega arith) (omega arith) (omega arith)
 
-pub offered_here : (vs cs as' : List ℕ) (i v c n : ℕ) → v ≡ get_or vs i 0 → c ≡ get_or cs i 0 → n ≡ c + added v c (get_or as' i 0) → i < length vs → i < length cs → i < length as' → n ≡ get_or (offered vs cs as') i 0
-offered_here vs cs as' i v c n volume count told in_vs in_cs in_as = cc (offered_at vs cs as' i in_vs in_cs in_as)
+-- a place where nothing was settled
+abbrev pub nothing : Settled
+nothing = record { added = 0; overflow = 0; handed = 0 }
+
+pub offered_here : (vs cs : List ℕ) (settled : List Settled) (i v c n : ℕ) → v ≡ get_or vs i 0 → c ≡ get_or cs i 0 → n ≡ c + added v c (get_or settled i nothing).added → i < length vs → i < length cs → i < length settled → n ≡ get_or (offered vs cs (additions_of settled)) i 0
+offered_here vs cs settled i v c n volume count told in_vs in_cs in_settled =
+    let amount = get_or-map (λ (s : Settled). s.added) settled i nothing 0 in_settled in
+    cc (amount, offered_at vs cs (additions_of settled) i in_vs in_cs (omega (arith, length-map settled (λ (s : Settled). s.added))))
 
 pub as_many_volumes : (column : Column) (rows : List Row) → length (column_volumes column (flows rows)) ≡ length rows
 as_many_volumes column rows = length-map (flows rows) _ ∙ length-map rows _

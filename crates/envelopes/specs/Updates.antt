@@ -9,6 +9,7 @@ use Rattle.envelopes.specs.declared.column.Column.TheVariants.{Green, Yellow}
 use Rattle.envelopes.specs.declared.flow.Flow.{Flow}
 use Rattle.envelopes.specs.declared.flow.Supply.{Supply}
 use Rattle.envelopes.specs.declared.lane.Lane.{Lane}
+use Rattle.envelopes.specs.declared.lane.Settled.{Settled}
 
 abbrev pub supply : Column → Flow → Supply
 supply Green f = f.green
@@ -37,6 +38,13 @@ green_additions p time k = additions time 0 (green_lanes p.flows k.greens)
 abbrev pub yellow_additions : Profile → ℕ → Counts → List ℕ
 yellow_additions p time k =
     additions time (to_highest_yellow p time k) (yellow_lanes p.flows (green_overflows p time k) k.yellows)
+
+-- what buckets have settled, by rank: what each adds, and what it does not
+abbrev pub additions_of : List Settled → List ℕ
+additions_of settled = map (λ s. s.added) settled
+
+abbrev pub overflows_of : List Settled → List ℕ
+overflows_of settled = map (λ s. s.overflow) settled
 
 -- buckets of such volumes and counts, each offered an amount
 abbrev pub offered : List ℕ → List ℕ → List ℕ → List ℕ

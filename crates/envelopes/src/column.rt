@@ -1,27 +1,20 @@
 // The two columns of an envelope's buckets, rank by rank.
 ghost use Rattle.std.specs.Prelude.{◌≡◌, ◌*◌, ◌≤◌, map, length, take};
+ghost use Rattle.envelopes.specs.Drafts.{profile};
 ghost use Rattle.envelopes.specs.Growth.{overflows};
 ghost use Rattle.envelopes.specs.Income.{income};
-ghost use Rattle.envelopes.specs.Stored.{flows, most_flows};
-ghost use Rattle.envelopes.specs.Updates.{additions, lane as lane_of, lanes, supply as supply_of};
+ghost use Rattle.envelopes.specs.Updates.{additions, additions_of, lane as lane_of, lanes, overflows_of, supply as supply_of};
 ghost use Rattle.tokens.specs.Units.{day_end, highest_rate};
 
+use crate::draft::Draft;
 use crate::flow::{Flow, Supply};
-use crate::lane::Lane;
-use crate::row::Row;
+use crate::lane::{Lane, Settled};
 use tokens::bucket::Bucket;
 
 #[derive(Clone, Copy)]
 pub(crate) enum Column {
     Green,
     Yellow,
-}
-
-// What each bucket of a column adds, and what it does not, by rank; places past the last rank are spare.
-#[derive(Clone, Copy)]
-pub(crate) struct Flowed {
-    pub(crate) added: [u64; 8],
-    pub(crate) over: [u64; 8],
 }
 
 impl Column {
@@ -56,33 +49,30 @@ impl Column {
     }
 }
 
-// Goes through a column from the highest rank down, from the counts as they are. What comes to the highest rank from
-// outside is `top`.
+// What each bucket of a column settles, from the highest rank down and by the counts as they are; the yellow column is
+// fed by what the green one settled. What comes to the highest rank from outside is `top`. Places past the last rank
+// are spare.
 pub(crate) fn flow_down<B: Bucket>(
     column: Column,
-    rows: &[Row],
-    green_over: [u64; 8],
+    draft: &Draft,
+    greens: [Settled; 8],
     time: u64,
     top: u64,
     buckets: &[B],
-) -> Flowed
-    requires few { length rows.now ≤ most_flows }
-    requires even { length buckets.now ≡ length rows.now }
+) -> [Settled; 8]
+    requires even { length buckets.now ≡ length (profile draft.now).flows }
     requires day { time ≤ day_end }
-    requires income { income time top (lanes column (flows rows.now) green_over (map B.Bucket.count buckets.now)) ≤ highest_rate * day_end }
-    ensures added { take (length rows.now) result.added ≡ additions time top (lanes column (flows rows.now) green_over (map B.Bucket.count buckets.now)) }
-    ensures over { take (length rows.now) result.over ≡ overflows time top (lanes column (flows rows.now) green_over (map B.Bucket.count buckets.now)) }
+    requires income { income time top (lanes column (profile draft.now).flows (overflows_of greens) (map B.Bucket.count buckets.now)) ≤ highest_rate * day_end }
+    ensures added { take (length (profile draft.now).flows) (additions_of result) ≡ additions time top (lanes column (profile draft.now).flows (overflows_of greens) (map B.Bucket.count buckets.now)) }
+    ensures over { take (length (profile draft.now).flows) (overflows_of result) ≡ overflows time top (lanes column (profile draft.now).flows (overflows_of greens) (map B.Bucket.count buckets.now)) }
 {
-    let mut added = [0; 8];
-    let mut over = [0; 8];
+    let mut settled = [Settled::default(); 8];
     let mut handed = top;
-    for i in (0..rows.len()).rev() {
-        let row = rows[i];
-        let lane = column.lane(row.flow(), green_over[i], buckets[i].count());
-        let settled = lane.settle(time, handed);
-        added[i] = settled.added;
-        over[i] = settled.overflow;
-        handed = settled.handed;
+    for (place, (row, bucket)) in draft.rows().iter().zip(buckets).enumerate().rev() {
+        let lane = column.lane(row.flow(), greens[place].overflow, bucket.count());
+        let here = lane.settle(time, handed);
+        settled[place] = here;
+        handed = here.handed;
     }
-    Flowed { added, over }
+    settled
 }

@@ -19,7 +19,7 @@ pub(crate) struct Lane {
 }
 
 // What a bucket adds, what it does not, and what of that it hands down.
-#[derive(Clone, Copy)]
+#[derive(Clone, Copy, Default)]
 pub(crate) struct Settled {
     pub(crate) added: u64,
     pub(crate) overflow: u64,

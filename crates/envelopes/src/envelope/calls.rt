@@ -22,7 +22,7 @@ impl Envelope {
         if buckets.len() != 2 * self.flows() {
             return Err(Refusal::Buckets);
         }
-        make_all(self.draft.rows(), buckets);
+        make_all(&self.draft, buckets);
         Ok(())
     }
 
@@ -48,9 +48,8 @@ impl Envelope {
         ensures refused { is_err result ≡ true → (self.new ≡ self.old) × (buckets.new ≡ buckets.old) }
     {
         let moment = self.check_request(buckets, request)?;
-        let flows = self.flows();
         self.move_to(buckets, moment);
-        Ok(declare(flows, buckets, request))
+        Ok(declare(&self.draft, buckets, request))
     }
 
     /// A rank's green and yellow count, in grains.
@@ -58,6 +57,6 @@ impl Envelope {
         ensures { Promised B.Bucket.volume B.Bucket.count self.now buckets.now (reading rank (told result)) self.now buckets.now }
     {
         self.check_read(buckets, rank)?;
-        Ok(counts_of(self.flows(), buckets, rank))
+        Ok(counts_of(&self.draft, buckets, rank))
     }
 }

@@ -24,7 +24,7 @@ impl Envelope {
     fn fits<B: Bucket>(&self, buckets: &[B]) -> bool
         ensures { result ≡ same_numbers (volumes_of (profile self.now.draft).flows) (map B.Bucket.volume buckets.now) }
     {
-        fit(self.draft.rows(), buckets)
+        fit(&self.draft, buckets)
     }
 
     fn lacks(&self, rank: u8) -> bool

@@ -1,5 +1,5 @@
 use Rattle.std.proofs.Common.{map}
-use Rattle.envelopes.specs.Updates.{offered}
+use Rattle.envelopes.specs.Updates.{additions_of, offered}
 use Rattle.envelopes.proofs.Written.{Written}
 use Rattle.envelopes.proofs.buckets.offer_each.Given as goal
 
@@ -9,4 +9,4 @@ invariant-loop-place g l =
     let count = g.B.Bucket.count in
     let volumes = map volume l.initial.buckets in
     let counts = map count l.initial.buckets in
-    Written volume volumes volumes l.buckets l.place × Written count (offered volumes counts l.amounts) counts l.buckets l.place
+    Written volume volumes volumes l.buckets l.place × Written count (offered volumes counts (additions_of l.settled)) counts l.buckets l.place

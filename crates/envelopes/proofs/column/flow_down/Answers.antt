@@ -1,29 +1,30 @@
-use Rattle.std.proofs.Common.{◌≡◌, ◌+◌, ◌-◌, ◌<◌, length, arith, rules}
-use Rattle.envelopes.proofs.Flowing.{coming_within_income, flowing_more, flowing_none, lane_read, lanes_are_few, maximum_of_lane, volume_of_lane}
+use Rattle.std.proofs.Common.{◌≡◌, length, sym, refl, ap, ◌∙◌, arith}
+use Rattle.envelopes.specs.Drafts.{rows_of}
+use Rattle.envelopes.proofs.Descending.{all_left, firsts, turn}
+use Rattle.envelopes.proofs.Drafted.{as_many_rows, few_rows}
+use Rattle.envelopes.proofs.Flowing.{coming_within_income, flowing_more, flowing_none, lane_read, lanes_are_few}
 use Rattle.envelopes.proofs.column.flow_down.Goals as goal
 
-pub loop-i-init : goal.loop-i-init
-loop-i-init g c = flowing_none _ _ _ _ _ _ (lanes_are_few _ c.args.rows.now _ _) c.requires.few c.requires.few
+pub loop-place-init : goal.loop-place-init
+loop-place-init g c =
+    let d = c.args.draft.now in
+    let all : firsts c.into_iter-place-iterator.result ≡ rows_of d = cc in (
+      all_left (rows_of d) c.args.buckets.now c.into_iter-place-iterator.result (cc) all (cc) (c.requires.even ∙ sym (as_many_rows d (rows_of d) refl)),
+      flowing_none _ _ _ _ _ _ (ap length all) (lanes_are_few _ (rows_of d) _ _) (few_rows d (rows_of d) refl),
+    )
 
-pub settle-settled-requires : goal.settle-settled-requires
-settle-settled-requires g c =
-    let in_rows : c.loop-i.i - 1 < length c.args.rows.now = search rules in
-    let in_over : c.loop-i.i - 1 < length c.args.green_over = search rules in
-    let in_buckets : c.loop-i.i - 1 < length c.args.buckets.now = search rules in
-    let next : c.loop-i.i ≡ (c.loop-i.i - 1) + 1 = search rules in
-    let here = lane_read g.B.Bucket.count c.args.column c.args.rows.now c.args.green_over c.args.buckets.now (c.loop-i.i - 1) _ _ _ _ _ c.index-rows-i.is c.flow.ensures c.index-buckets-i.is c.count.ensures c.lane-lane.ensures in_rows in_over in_buckets in
-    record {
-      day = c.requires.day;
-      maximum = maximum_of_lane c.args.column c.index-rows-i.result _ _ _ _ c.flow.ensures c.lane-lane.ensures;
-      volume = volume_of_lane c.args.column c.index-rows-i.result _ _ _ _ c.flow.ensures c.lane-lane.ensures;
-      income = omega (arith, coming_within_income _ _ _ _ _ _ _ _ _ next c.loop-i.invariant _ here, c.requires.income);
-    }
+pub settle-here-requires-clause-income : goal.settle-here-requires-clause-income
+settle-here-requires-clause-income g c =
+    let d = c.args.draft.now in
+    let down = c.loop-place.invariant.0 in
+    let here = turn (rows_of d) c.args.buckets.now _ _ _ down _ _ _ _ c.in-Some.is c.next.ensures.steps in
+    let lane = lane_read g.B.Bucket.count c.args.column (rows_of d) c.args.greens _ _ _ _ _ _ _ _ _ _ down here (omega (arith, few_rows d (rows_of d) refl)) c.flow.ensures c.count.ensures c.lane-lane.ensures in
+    omega (arith, coming_within_income _ _ _ _ _ _ _ _ here.next c.loop-place.invariant.1 _ lane, c.requires.income)
 
-pub loop-i-preserved : goal.loop-i-preserved
-loop-i-preserved g c =
-    let in_rows : c.loop-i.i - 1 < length c.args.rows.now = search rules in
-    let in_over : c.loop-i.i - 1 < length c.args.green_over = search rules in
-    let in_buckets : c.loop-i.i - 1 < length c.args.buckets.now = search rules in
-    let next : c.loop-i.i ≡ (c.loop-i.i - 1) + 1 = search rules in
-    let here = lane_read g.B.Bucket.count c.args.column c.args.rows.now c.args.green_over c.args.buckets.now (c.loop-i.i - 1) _ _ _ _ _ c.index-rows-i.is c.flow.ensures c.index-buckets-i.is c.count.ensures c.lane-lane.ensures in_rows in_over in_buckets in
-    flowing_more _ _ _ _ _ _ _ _ _ next c.loop-i.invariant _ here _ _ _ c.settle-settled.ensures.added c.settle-settled.ensures.overflow c.settle-settled.ensures.handed in_rows
+pub loop-place-preserved : goal.loop-place-preserved
+loop-place-preserved g c =
+    let d = c.args.draft.now in
+    let down = c.loop-place.invariant.0 in
+    let here = turn (rows_of d) c.args.buckets.now _ _ _ down _ _ _ _ c.in-Some.is c.next.ensures.steps in
+    let lane = lane_read g.B.Bucket.count c.args.column (rows_of d) c.args.greens _ _ _ _ _ _ _ _ _ _ down here (omega (arith, few_rows d (rows_of d) refl)) c.flow.ensures c.count.ensures c.lane-lane.ensures in
+    (here.on, flowing_more _ _ _ _ _ _ _ _ here.next c.loop-place.invariant.1 _ lane c.settle-here.result c.settle-here.ensures.added c.settle-here.ensures.overflow c.settle-here.ensures.handed (omega (arith, here.next, down.in_xs)) _ here.left_now)

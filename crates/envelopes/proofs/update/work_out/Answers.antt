@@ -1,35 +1,30 @@
-use Rattle.std.proofs.Common.{length, sym, arith}
-use lib.ListN.{length-map}
+use Rattle.std.proofs.Common.{cond, get_or, ap, ◌∙◌, rules}
+use Rattle.envelopes.specs.Drafts.{profile}
+use Rattle.envelopes.proofs.Drafted.{few_flows, lawful, rates_within, some_flows}
 use Rattle.envelopes.proofs.Gained.{fits_as_read, green_fits, greens_added, yellow_fits, yellows_added}
+use Rattle.envelopes.proofs.Written.{nothing}
 use Rattle.envelopes.proofs.update.work_out.Goals as goal
 
-pub flow_down-requires : goal.flow_down-requires
-flow_down-requires g c =
-    let fits = fits_as_read g.B.Bucket.count c.args.rows.now c.args.cf0 c.args.greens.now c.args.yellows.now c.requires.greens c.requires.yellows in
-    let many = length-map c.args.rows.now (λ r. r.flow) in
-    record {
-      few = c.requires.few;
-      even = c.requires.greens;
-      day = c.requires.day;
-      income = green_fits _ c.args.time _ fits c.requires.rates c.requires.day _ (omega (arith, c.requires.few));
-    }
+pub flow_down-green-requires-clause-income : goal.flow_down-green-requires-clause-income
+flow_down-green-requires-clause-income g c =
+    let d = c.args.draft.now in
+    let fits = fits_as_read g.B.Bucket.count (profile d) c.args.greens.now c.args.yellows.now c.requires.greens c.requires.yellows in
+    green_fits (profile d) c.args.time _ fits (rates_within d) c.requires.day _ (few_flows d)
 
-pub flow_down-requires-2 : goal.flow_down-requires-2
-flow_down-requires-2 g c =
-    let fits = fits_as_read g.B.Bucket.count c.args.rows.now c.args.cf0 c.args.greens.now c.args.yellows.now c.requires.greens c.requires.yellows in
-    let many = length-map c.args.rows.now (λ r. r.flow) in
-    record {
-      few = c.requires.few;
-      even = c.requires.yellows;
-      day = c.requires.day;
-      income = yellow_fits _ c.args.time _ fits c.requires.rates c.requires.day _ (omega (arith, c.requires.few)) _ (sym many) _ c.flow_down.ensures.over c.requires.some _ c.only_if-top.ensures c.requires.flags;
-    }
+pub flow_down-yellow-requires-clause-income : goal.flow_down-yellow-requires-clause-income
+flow_down-yellow-requires-clause-income g c =
+    let d = c.args.draft.now in
+    let fits = fits_as_read g.B.Bucket.count (profile d) c.args.greens.now c.args.yellows.now c.requires.greens c.requires.yellows in
+    yellow_fits (profile d) c.args.time _ fits (rates_within d) c.requires.day _ (few_flows d) c.flow_down-green.result c.flow_down-green.ensures.over (some_flows d) (search rules) _ (c.only_if-top.ensures ∙ ap (λ b. cond b (get_or c.flow_down-green.result 0 nothing).overflow 0) c.cf0.ensures) (lawful d).not_both_flags
 
-pub returns : goal.returns
-returns g c =
-    let fits = fits_as_read g.B.Bucket.count c.args.rows.now c.args.cf0 c.args.greens.now c.args.yellows.now c.requires.greens c.requires.yellows in
-    let many = length-map c.args.rows.now (λ r. r.flow) in
-    record {
-      green = greens_added _ c.args.time _ fits c.requires.rates c.requires.day _ (omega (arith, c.requires.few)) (length c.args.rows.now) c.flow_down.result.added c.flow_down.ensures.added;
-      yellow = yellows_added _ c.args.time _ fits c.requires.rates c.requires.day _ (omega (arith, c.requires.few)) _ (sym many) _ c.flow_down.ensures.over c.requires.some _ c.only_if-top.ensures _ c.flow_down-2.ensures.added;
-    }
+pub returns-clause-green : goal.returns-clause-green
+returns-clause-green g c =
+    let d = c.args.draft.now in
+    let fits = fits_as_read g.B.Bucket.count (profile d) c.args.greens.now c.args.yellows.now c.requires.greens c.requires.yellows in
+    greens_added (profile d) c.args.time _ fits (rates_within d) c.requires.day _ (few_flows d) _ c.flow_down-green.ensures.added
+
+pub returns-clause-yellow : goal.returns-clause-yellow
+returns-clause-yellow g c =
+    let d = c.args.draft.now in
+    let fits = fits_as_read g.B.Bucket.count (profile d) c.args.greens.now c.args.yellows.now c.requires.greens c.requires.yellows in
+    yellows_added (profile d) c.args.time _ fits (rates_within d) c.requires.day _ (few_flows d) c.flow_down-green.result c.flow_down-green.ensures.over (some_flows d) (search rules) _ (c.only_if-top.ensures ∙ ap (λ b. cond b (get_or c.flow_down-green.result 0 nothing).overflow 0) c.cf0.ensures) _ c.flow_down-yellow.ensures.added

@@ -1,10 +1,9 @@
-use Rattle.std.proofs.Common.{refl, ap, ◌∙◌, arith}
+use Rattle.std.proofs.Common.{refl, arith}
 use lib.ListN.{length-map}
 use Rattle.envelopes.specs.Drafts.{profile}
 use Rattle.envelopes.specs.Histories.{sees}
-use Rattle.envelopes.specs.Promises.{fill_causes, filled, volumes}
+use Rattle.envelopes.specs.Promises.{fill_causes, filled}
 use Rattle.envelopes.proofs.Causes.{false_is_not_true}
-use Rattle.envelopes.proofs.Drafted.{as_many_rows, few_rows, their_flows}
 use Rattle.envelopes.proofs.Judged.{seen_by_parts}
 use Rattle.envelopes.proofs.Kept.{keeps_by_answer, keeps_by_refusal, right_number, wrong_number_refused}
 use Rattle.envelopes.proofs.envelope.Envelope.fill.Goals as goal
@@ -21,24 +20,14 @@ returns-then-buckets-flows g c =
       refused = λ _. refl;
     }
 
-pub make_all-requires : goal.make_all-requires
-make_all-requires g c =
-    let draft = c.args.self.now.draft in
-    let rows = c.rows.result.now in
-    record {
-      few = few_rows draft rows c.rows.ensures;
-      even = omega (arith, as_many_rows draft rows c.rows.ensures, c.if-buckets-flows.false, c.flows.ensures);
-    }
-
 pub returns : goal.returns
 returns g c =
     let self = c.args.self.now in
     let bs = c.args.buckets.now in
     let seen = sees g.B.Bucket.volume g.B.Bucket.count self.latest.micros bs in
     let many = length-map bs g.B.Bucket.volume in
-    let rows = ap volumes (their_flows self.draft _ c.rows.ensures) in
     record {
-      promise = keeps_by_answer tt (fill_causes (profile self.draft) seen) _ seen (filled (profile self.draft) seen) _ (right_number (profile self.draft) seen (omega (arith, many, c.if-buckets-flows.false, c.flows.ensures))) refl (seen_by_parts _ _ _ (filled (profile self.draft) seen) refl (c.make_all.ensures.volumes ∙ rows) (c.make_all.ensures.counts ∙ rows));
+      promise = keeps_by_answer tt (fill_causes (profile self.draft) seen) _ seen (filled (profile self.draft) seen) _ (right_number (profile self.draft) seen (omega (arith, many, c.if-buckets-flows.false, c.flows.ensures))) refl (seen_by_parts _ _ _ (filled (profile self.draft) seen) refl c.make_all.ensures.volumes c.make_all.ensures.counts);
       same = refl;
       refused = λ e. absurd (false_is_not_true e);
     }

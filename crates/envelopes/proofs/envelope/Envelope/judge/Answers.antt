@@ -1,4 +1,4 @@
-use Rattle.std.proofs.Common.{refl, ap, ◌∙◌, arith}
+use Rattle.std.proofs.Common.{length, refl, ap, ◌∙◌, arith}
 use lib.ListN.{length-map}
 use Rattle.tokens.specs.Refusals.{answered}
 use Rattle.envelopes.specs.Drafts.{profile}
@@ -34,11 +34,8 @@ declare-requires g c =
     let passed = passed_as c.args.request.moment _ (judge_causes (profile self.draft) seen c.args.request) c.in_ok-moment.ensures in
     let known = request_passed (profile self.draft) seen c.args.request passed.0 in
     let even = fitting_are_even g.B.Bucket.volume _ _ (c.move_to.ensures.volumes ∙ known.0) in
-    record {
-      even = omega (arith, even, c.flows-flows.ensures);
-      some_rank = known.1;
-      rank_bound = omega (arith, known.2, c.flows-flows.ensures);
-    }
+    let flows = ap (λ d. length (profile d).flows) c.move_to.ensures.draft in
+    record { even = omega (arith, even); some_rank = known.1; rank_bound = omega (arith, known.2) }
 
 pub returns : goal.returns
 returns g c =
@@ -51,8 +48,9 @@ returns g c =
     let fit = (request_passed p seen q passed.0).0 in
     let even = length-map bs g.B.Bucket.count ∙ fitting_are_even g.B.Bucket.volume bs p.flows fit in
     let now = c.move_to.ensures.counts ∙ ap (λ moment. in_a_row (counts_at p seen moment)) passed.1 in
-    let given = colour_told p seen fit even q _ c.flows-flows.ensures _ now _ c.declare.ensures.value in
-    let counts = counts_left p seen fit even q _ c.flows-flows.ensures _ now _ c.declare.ensures.value _ c.declare.ensures.counts in
+    let flows = ap (λ d. length (profile d).flows) c.move_to.ensures.draft in
+    let given = colour_told p seen fit even q _ flows _ now _ c.declare.ensures.value in
+    let counts = counts_left p seen fit even q _ flows _ now _ c.declare.ensures.value _ c.declare.ensures.counts in
     record {
       promise = keeps_by_answer _ (judge_causes p seen q) _ _ (judged p seen q) _ passed.0 (ap answered given) (seen_by_parts _ _ _ (judged p seen q) (ap (λ time. time.micros) c.move_to.ensures.latest ∙ passed.1) (c.declare.ensures.volumes ∙ c.move_to.ensures.volumes) counts);
       draft = c.move_to.ensures.draft;
