@@ -17,6 +17,7 @@ pub enum Form {
     Leaky,
 }
 
+/// A form by its name.
 impl FromStr for Form {
     type Err = Misuse;
 

@@ -36,7 +36,8 @@ impl<'a> Iterator for Lines<'a> {
     }
 }
 
-// The number that decimal digits write; one that 64 bits do not hold is read as the largest that they do.
+// The number that decimal digits write; one that 64 bits do not hold is read as the largest that they do. std's `parse`
+// refuses that one, and takes a sign.
 pub(crate) fn number(text: &[u8]) -> Option<u64>
     ensures { result ≡ number_in text.now }
 {

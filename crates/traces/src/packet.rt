@@ -10,7 +10,8 @@ pub(crate) struct Packet {
     pub(crate) moment: u64,
 }
 
-// The packet that a line writes: its tokens and its moment, two numbers with one space between.
+// The packet that a line writes: its tokens and its moment, two numbers with one space between. Bytes may be no text,
+// and fail in one way only: no `FromStr`, and an `Option`.
 pub(crate) fn read_packet(line: &[u8]) -> Option<Packet>
     ensures { result ≡ packet_in line.now }
 {

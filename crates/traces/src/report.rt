@@ -33,6 +33,7 @@ pub struct Report {
     pub ending: Ending,
 }
 
+// The three kinds of line are one `writeln!` each: a type that prints each of them would be no plainer.
 fn write_packet(
     out: &mut String,
     number: u64,
