@@ -10,6 +10,7 @@ use crate::draft::Draft;
 use crate::flow::{Flow, Supply};
 use crate::lane::{Lane, Settled};
 use tokens::bucket::Bucket;
+use tokens::time::Time;
 
 #[derive(Clone, Copy)]
 pub(crate) enum Column {
@@ -56,15 +57,14 @@ pub(crate) fn flow_down<B: Bucket>(
     column: Column,
     draft: &Draft,
     greens: [Settled; 8],
-    time: u64,
+    time: Time,
     top: u64,
     buckets: &[B],
 ) -> [Settled; 8]
     requires even { length buckets.now ≡ length (profile draft.now).flows }
-    requires day { time ≤ day_end }
-    requires income { income time top (lanes column (profile draft.now).flows (overflows_of greens) (map B.Bucket.count buckets.now)) ≤ highest_rate * day_end }
-    ensures added { take (length (profile draft.now).flows) (additions_of result) ≡ additions time top (lanes column (profile draft.now).flows (overflows_of greens) (map B.Bucket.count buckets.now)) }
-    ensures over { take (length (profile draft.now).flows) (overflows_of result) ≡ overflows time top (lanes column (profile draft.now).flows (overflows_of greens) (map B.Bucket.count buckets.now)) }
+    requires income { income time.micros top (lanes column (profile draft.now).flows (overflows_of greens) (map B.Bucket.count buckets.now)) ≤ highest_rate * day_end }
+    ensures added { take (length (profile draft.now).flows) (additions_of result) ≡ additions time.micros top (lanes column (profile draft.now).flows (overflows_of greens) (map B.Bucket.count buckets.now)) }
+    ensures over { take (length (profile draft.now).flows) (overflows_of result) ≡ overflows time.micros top (lanes column (profile draft.now).flows (overflows_of greens) (map B.Bucket.count buckets.now)) }
 {
     let mut settled = [Settled::default(); 8];
     let mut handed = top;

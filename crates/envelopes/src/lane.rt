@@ -6,6 +6,7 @@ ghost use Rattle.envelopes.specs.Rows.{largest_flow_volume};
 ghost use Rattle.tokens.specs.Units.{day_end, highest_rate};
 
 use crate::flow::Supply;
+use tokens::time::Time;
 use tokens::units::GRAINS_PER_TOKEN;
 
 /// What supplies the bucket, what comes to it besides its rate and the overflow of the rank above, whether its own
@@ -27,29 +28,27 @@ pub(crate) struct Settled {
 }
 
 // What a maximum rate, if there is one, lets through in a time.
-fn limited(maximum: Option<u64>, time: u64, coming: u64) -> u64
-    requires maximum { maximum_or_0 maximum ≤ highest_rate }
-    requires day { time ≤ day_end }
-    ensures { result ≡ limited_by maximum time coming }
+fn limited(maximum: Option<u64>, time: Time, coming: u64) -> u64
+    requires { maximum_or_0 maximum ≤ highest_rate }
+    ensures { result ≡ limited_by maximum time.micros coming }
 {
     match maximum {
         None => coming,
-        Some(maximum) => coming.min(maximum * time),
+        Some(maximum) => coming.min(maximum * time.micros),
     }
 }
 
 impl Lane {
     // The rank above hands down so much.
-    pub(crate) fn settle(self, time: u64, handed: u64) -> Settled
-        requires day { time ≤ day_end }
+    pub(crate) fn settle(self, time: Time, handed: u64) -> Settled
         requires maximum { maximum_or_0 self.supply.maximum ≤ highest_rate }
         requires volume { self.supply.volume ≤ largest_flow_volume }
-        requires income { coming_to time handed self ≤ highest_rate * day_end }
-        ensures added { result.added ≡ added_by time handed self }
-        ensures overflow { result.overflow ≡ overflow_of time handed self }
-        ensures handed { result.handed ≡ (if self.withheld then 0 else overflow_of time handed self) }
+        requires income { coming_to time.micros handed self ≤ highest_rate * day_end }
+        ensures added { result.added ≡ added_by time.micros handed self }
+        ensures overflow { result.overflow ≡ overflow_of time.micros handed self }
+        ensures handed { result.handed ≡ (if self.withheld then 0 else overflow_of time.micros handed self) }
     {
-        let coming = self.supply.rate * time + (self.besides + handed);
+        let coming = self.supply.rate * time.micros + (self.besides + handed);
         let room = (GRAINS_PER_TOKEN * self.supply.volume).saturating_sub(self.count);
         let added = limited(self.supply.maximum, time, coming).min(room);
         let overflow = coming - added;

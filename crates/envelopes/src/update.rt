@@ -1,17 +1,17 @@
 // An update of an envelope's buckets: all overflows are worked out from the counts before it, then the buckets are
 // written.
-ghost use Rattle.std.specs.Prelude.{◌≡◌, ◌≤◌, map, length, take, if◌then◌else◌};
+ghost use Rattle.std.specs.Prelude.{◌≡◌, map, length, take, if◌then◌else◌};
 ghost use Rattle.envelopes.specs.Drafts.{profile};
 ghost use Rattle.envelopes.specs.Growth.{grown};
 ghost use Rattle.envelopes.specs.Promises.{in_a_row, parted, volumes as volumes_of};
 ghost use Rattle.envelopes.specs.Updates.{additions_of, green_additions, yellow_additions};
-ghost use Rattle.tokens.specs.Units.{day_end};
 
 use crate::buckets::offer_each;
 use crate::column::{Column, flow_down};
 use crate::draft::Draft;
 use crate::lane::Settled;
 use tokens::bucket::Bucket;
+use tokens::time::Time;
 
 // Rank 1's green overflow goes to the highest yellow bucket only where CF0 is 1.
 fn only_if(flag: bool, amount: u64) -> u64
@@ -24,15 +24,14 @@ fn only_if(flag: bool, amount: u64) -> u64
 // written.
 fn work_out<B: Bucket>(
     draft: &Draft,
-    time: u64,
+    time: Time,
     greens: &[B],
     yellows: &[B],
 ) -> ([Settled; 8], [Settled; 8])
     requires greens { length greens.now ≡ length (profile draft.now).flows }
     requires yellows { length yellows.now ≡ length (profile draft.now).flows }
-    requires day { time ≤ day_end }
-    ensures green { take (length (profile draft.now).flows) (additions_of result.0) ≡ green_additions (profile draft.now) time (record { greens = map B.Bucket.count greens.now; yellows = map B.Bucket.count yellows.now }) }
-    ensures yellow { take (length (profile draft.now).flows) (additions_of result.1) ≡ yellow_additions (profile draft.now) time (record { greens = map B.Bucket.count greens.now; yellows = map B.Bucket.count yellows.now }) }
+    ensures green { take (length (profile draft.now).flows) (additions_of result.0) ≡ green_additions (profile draft.now) time.micros (record { greens = map B.Bucket.count greens.now; yellows = map B.Bucket.count yellows.now }) }
+    ensures yellow { take (length (profile draft.now).flows) (additions_of result.1) ≡ yellow_additions (profile draft.now) time.micros (record { greens = map B.Bucket.count greens.now; yellows = map B.Bucket.count yellows.now }) }
 {
     let green = flow_down(
         Column::Green,
@@ -48,11 +47,10 @@ fn work_out<B: Bucket>(
 }
 
 // Lets all buckets grow by a time.
-pub(crate) fn update<B: Bucket>(draft: &Draft, time: u64, buckets: &mut [B])
-    requires fit { map B.Bucket.volume buckets.old ≡ volumes_of (profile draft.now).flows }
-    requires day { time ≤ day_end }
+pub(crate) fn update<B: Bucket>(draft: &Draft, time: Time, buckets: &mut [B])
+    requires { map B.Bucket.volume buckets.old ≡ volumes_of (profile draft.now).flows }
     ensures volumes { map B.Bucket.volume buckets.new ≡ map B.Bucket.volume buckets.old }
-    ensures counts { map B.Bucket.count buckets.new ≡ in_a_row (grown (profile draft.now) time (parted (length (profile draft.now).flows) (map B.Bucket.count buckets.old))) }
+    ensures counts { map B.Bucket.count buckets.new ≡ in_a_row (grown (profile draft.now) time.micros (parted (length (profile draft.now).flows) (map B.Bucket.count buckets.old))) }
 {
     let flows = draft.rows().len();
     let (greens, yellows) = buckets.split_at_mut(flows);

@@ -18,7 +18,7 @@ impl Envelope {
         ensures volumes { map B.Bucket.volume buckets.new ≡ map B.Bucket.volume buckets.old }
         ensures counts { map B.Bucket.count buckets.new ≡ in_a_row (grown (profile self.old.draft) (moment.micros - self.old.latest.micros) (parted (length (profile self.old.draft).flows) (map B.Bucket.count buckets.old))) }
     {
-        update(&self.draft, moment.since(self.latest).micros, buckets);
+        update(&self.draft, moment.since(self.latest), buckets);
         self.latest = moment;
     }
 }

@@ -10,4 +10,4 @@ abbrev pub invariant-loop-place : goal.invariant-loop-place
 invariant-loop-place g l =
     let rows = rows_of l.draft in
     let n = length (firsts l.place-iterator) in
-    Descending rows l.buckets n l.place-iterator × Flowing l.time l.top (lanes l.column (flows rows) (overflows_of l.greens) (map g.B.Bucket.count l.buckets)) (length rows) n l.handed l.settled
+    Descending rows l.buckets n l.place-iterator × Flowing l.time.micros l.top (lanes l.column (flows rows) (overflows_of l.greens) (map g.B.Bucket.count l.buckets)) (length rows) n l.handed l.settled

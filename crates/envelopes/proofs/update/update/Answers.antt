@@ -7,4 +7,4 @@ use Rattle.envelopes.proofs.update.update.Goals as goal
 pub returns-clause-counts : goal.returns-clause-counts
 returns-clause-counts g c =
     let d = c.args.draft.now in
-    grown_in_halves g.B.Bucket.volume g.B.Bucket.count (profile d) c.args.time _ (as_many_rows d _ c.rows-flows.ensures) c.args.buckets.now _ _ _ _ c.requires.fit c.split_at_mut-greens.ensures.front c.split_at_mut-greens.ensures.back (additions_of c.work_out.result.0) (additions_of c.work_out.result.1) c.work_out.ensures.green c.work_out.ensures.yellow c.offer_each.ensures.counts c.offer_each-2.ensures.counts
+    grown_in_halves g.B.Bucket.volume g.B.Bucket.count (profile d) c.args.time.micros _ (as_many_rows d _ c.rows-flows.ensures) c.args.buckets.now _ _ _ _ c.requires c.split_at_mut-greens.ensures.front c.split_at_mut-greens.ensures.back (additions_of c.work_out.result.0) (additions_of c.work_out.result.1) c.work_out.ensures.green c.work_out.ensures.yellow c.offer_each.ensures.counts c.offer_each-2.ensures.counts
