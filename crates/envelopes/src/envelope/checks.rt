@@ -1,8 +1,8 @@
 // What the calls upon an envelope are checked for, in the order of the refusals' numbers.
-ghost use Rattle.std.specs.Prelude.{◌≡◌, ◌||◌, map, length, ◌==◌, nat_lt};
+ghost use Rattle.std.specs.Prelude.{◌≡◌, [], ◌∷◌, length};
 ghost use Rattle.envelopes.specs.Drafts.{profile};
 ghost use Rattle.envelopes.specs.Histories.{sees};
-ghost use Rattle.envelopes.specs.Promises.{advance_causes, judge_causes, read_causes, same as same_numbers, volumes as volumes_of};
+ghost use Rattle.envelopes.specs.Promises.{advance_causes, bucket_cause, judge_causes, rank_cause, read_causes};
 ghost use Rattle.envelopes.specs.Refusals.{told, told_by};
 ghost use Rattle.tokens.specs.Refusals.{unless_refused};
 
@@ -21,16 +21,25 @@ impl Envelope {
         self.draft.rows().len()
     }
 
-    fn fits<B: Bucket>(&self, buckets: &[B]) -> bool
-        ensures { result ≡ same_numbers (volumes_of (profile self.now.draft).flows) (map B.Bucket.volume buckets.now) }
+    // Refuses buckets that are not two for each flow, with the flows' volumes.
+    fn check_buckets<B: Bucket>(&self, buckets: &[B]) -> Result<(), Refusal>
+        ensures { told result ≡ unless_refused (bucket_cause (profile self.now.draft) (sees B.Bucket.volume B.Bucket.count self.now.latest.micros buckets.now) ∷ []) tt }
     {
-        fit(&self.draft, buckets)
+        if fit(&self.draft, buckets) {
+            Ok(())
+        } else {
+            Err(Refusal::Buckets)
+        }
     }
 
-    fn lacks(&self, rank: u8) -> bool
-        ensures { result ≡ (rank == 0 || nat_lt (length (profile self.now.draft).flows) rank) }
+    // Refuses a rank that no flow has.
+    fn check_rank(&self, rank: u8) -> Result<(), Refusal>
+        ensures { told result ≡ unless_refused (rank_cause (profile self.now.draft) rank ∷ []) tt }
     {
-        rank == 0 || usize::from(rank) > self.flows()
+        if rank == 0 || usize::from(rank) > self.flows() {
+            return Err(Refusal::Rank);
+        }
+        Ok(())
     }
 
     // The moment to advance to.
@@ -41,9 +50,7 @@ impl Envelope {
     ) -> Result<Time, Refusal>
         ensures { told_by (λ time. time.micros) result ≡ unless_refused (advance_causes (profile self.now.draft) (sees B.Bucket.volume B.Bucket.count self.now.latest.micros buckets.now) moment) moment }
     {
-        if !self.fits(buckets) {
-            return Err(Refusal::Buckets);
-        }
+        self.check_buckets(buckets)?;
         Ok(self.latest.next(moment)?)
     }
 
@@ -55,27 +62,18 @@ impl Envelope {
     ) -> Result<Time, Refusal>
         ensures { told_by (λ time. time.micros) result ≡ unless_refused (judge_causes (profile self.now.draft) (sees B.Bucket.volume B.Bucket.count self.now.latest.micros buckets.now) request) request.moment }
     {
-        if !self.fits(buckets) {
-            return Err(Refusal::Buckets);
-        }
+        self.check_buckets(buckets)?;
         if request.tokens == 0 {
             return Err(Refusal::NoTokens);
         }
-        if self.lacks(request.rank) {
-            return Err(Refusal::Rank);
-        }
+        self.check_rank(request.rank)?;
         Ok(self.latest.next(request.moment)?)
     }
 
     pub(crate) fn check_read<B: Bucket>(&self, buckets: &[B], rank: u8) -> Result<(), Refusal>
         ensures { told result ≡ unless_refused (read_causes (profile self.now.draft) (sees B.Bucket.volume B.Bucket.count self.now.latest.micros buckets.now) rank) tt }
     {
-        if !self.fits(buckets) {
-            return Err(Refusal::Buckets);
-        }
-        if self.lacks(rank) {
-            return Err(Refusal::Rank);
-        }
-        Ok(())
+        self.check_buckets(buckets)?;
+        self.check_rank(rank)
     }
 }
