@@ -33,6 +33,7 @@ pub(crate) fn make_each<B: Bucket>(column: Column, draft: &Draft, buckets: &mut 
 {
     let rows = draft.rows();
     // by place, as in `offer_each`
+    // `as`: a row's volume fits, so there is no case for `try_from` to answer
     for (place, bucket) in buckets.iter_mut().enumerate() {
         *bucket = B::make(column.supply(rows[place].flow()).volume as u32);
     }

@@ -4,6 +4,8 @@ ghost use Rattle.envelopes.specs.Refusals.{number as number_of, of_moment};
 
 use tokens::time::MomentRefusal;
 
+// An enum of this layer's own, though meters refuse with 8, 10 and 11 too: one for both would give each caller cases
+// that cannot come.
 /// Each is the number under which customers know it.
 #[derive(Clone, Copy, PartialEq, Eq, Debug)]
 pub enum Refusal {

@@ -5,6 +5,8 @@ ghost use Rattle.tokens.specs.Refusals.{told, told_by};
 
 use crate::refusal::Refusal;
 
+// A packet's tokens and its moment stay two numbers: a struct of both would be made for each call, and taken apart again
+// in each clause.
 pub trait Meter: Copy {
     ghost meaning: { Self → Metered };
 
