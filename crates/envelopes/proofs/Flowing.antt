@@ -3,15 +3,11 @@ use Rattle.std.proofs.Common.{◌≡◌, ℕ, zero, suc, ◌+◌, ◌<◌, ◌�
 use lib.ListN.{length-map}
 use lib.Seq.{map-set, take-set-lt}
 use Rattle.std.proofs.lemmas.List.{drop_all, drop-set, get_or-map}
-use Rattle.tokens.specs.Units.{highest_rate}
 use Rattle.envelopes.specs.Growth.{added, coming, handed_down, overflow, overflows}
 use Rattle.envelopes.specs.Income.{income}
-use Rattle.envelopes.specs.Profiles.{maximum_or_0}
-use Rattle.envelopes.specs.Rows.{largest_flow_volume}
 use Rattle.envelopes.specs.Stored.{flows}
 use Rattle.envelopes.specs.Updates.{additions, additions_of, lane, lanes, overflows_of}
 use Rattle.envelopes.specs.declared.column.Column.{Column}
-use Rattle.envelopes.specs.declared.column.Column.TheVariants.{Green, Yellow}
 use Rattle.envelopes.specs.declared.flow.Flow.{Flow}
 use Rattle.envelopes.specs.declared.lane.Lane.{Lane}
 use Rattle.envelopes.specs.declared.lane.Settled.{Settled}
@@ -105,16 +101,3 @@ lane_read count column rows greens bs n j s t r f b c l down turn room flow coun
     let in_counts : j < length (map count bs) = omega (arith, length-map bs count) in
     let whole = lane_at column rows (overflows_of greens) (map count bs) j r _ c turn.first over held in_rows in_over in_counts in
     whole ∙ ap (λ x. x ∷ drop (j + 1) (lanes column (flows rows) (overflows_of greens) (map count bs))) (ap (λ x. lane column x (get_or greens j nothing).overflow c) (sym flow) ∙ sym made)
-
--- what a row keeps to, a lane made of it keeps to
-pub maximum_of_lane : (column : Column) (r : Row) (f : Flow) (o c : ℕ) (l : Lane) → f ≡ r.flow → l ≡ lane column f o c → maximum_or_0 l.supply.maximum ≤ highest_rate
-maximum_of_lane Green r f o c l flow made =
-    omega (arith, r.green_maximum, ap (λ x. maximum_or_0 x.supply.maximum) made, ap (λ x. maximum_or_0 x.green.maximum) flow)
-maximum_of_lane Yellow r f o c l flow made =
-    omega (arith, r.yellow_maximum, ap (λ x. maximum_or_0 x.supply.maximum) made, ap (λ x. maximum_or_0 x.yellow.maximum) flow)
-
-pub volume_of_lane : (column : Column) (r : Row) (f : Flow) (o c : ℕ) (l : Lane) → f ≡ r.flow → l ≡ lane column f o c → l.supply.volume ≤ largest_flow_volume
-volume_of_lane Green r f o c l flow made =
-    omega (arith, r.green_volume, ap (λ x. x.supply.volume) made, ap (λ x. x.green.volume) flow)
-volume_of_lane Yellow r f o c l flow made =
-    omega (arith, r.yellow_volume, ap (λ x. x.supply.volume) made, ap (λ x. x.yellow.volume) flow)

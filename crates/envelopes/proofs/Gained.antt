@@ -71,10 +71,11 @@ module _ (p : Profile) (time : ℕ) (k : Counts) (fits : Fits p k) (rates : all_
         yellows_added adds came =
             came ∙ ap (λ t. additions time t (lanes Yellow p.flows (overflows_of greens) k.yellows)) top_is ∙ ap (additions time (to_highest_yellow p time k)) below
 
--- the counts of both columns, read from as many buckets as there are flows, fit the profile
-pub fits_as_read : {B : Type 0} (count : B → ℕ) (p : Profile) (gs ys : List B) → length gs ≡ length p.flows → length ys ≡ length p.flows → Fits p (record { greens = map count gs; yellows = map count ys })
-fits_as_read count p gs ys greens yellows =
-    record { greens = length-map gs count ∙ greens; yellows = length-map ys count ∙ yellows }
+-- the counts of both columns, read from the two halves of buckets that fit, fit the profile
+pub fits_in_halves : {B : Type 0} (volume count : B → ℕ) (p : Profile) (m : ℕ) (bs first second : List B) → m ≡ length p.flows → map volume bs ≡ volumes p.flows → length first ≡ m → length second + m ≡ length bs → Fits p (record { greens = map count first; yellows = map count second })
+fits_in_halves volume count p m bs first second many fit greens yellows =
+    let even = fitting_are_even volume bs p.flows fit in
+    record { greens = omega (arith, length-map first count); yellows = omega (arith, length-map second count) }
 
 -- the counts of a column, each offered what it adds, have risen
 offered_what_it_adds : (time top : ℕ) (ls : List Lane) → offered (map (λ l. grains l.supply.volume) ls) (map (λ l. l.count) ls) (additions time top ls) ≡ risen time top ls

@@ -1,9 +1,9 @@
 -- Buckets written one after the other: what is told of them is the new up to a place and the old from there on.
 -- Assumes nothing.
-use Rattle.std.proofs.Common.{◌≡◌, ℕ, zero, suc, ◌+◌, ◌<◌, ◌≤◌, List, [], ◌∷◌, ◌++◌, map, length, get_or, take, drop, set, sym, refl, ap, ◌∙◌, append-nil, arith, length-set, length-take-le, take_all}
+use Rattle.std.proofs.Common.{◌≡◌, ℕ, zero, suc, ◌+◌, ◌<◌, ◌≤◌, List, [], ◌∷◌, ◌++◌, map, length, get_or, take, drop, set, sym, refl, ap, ◌∙◌, arith, length-set, length-take-le}
 use lib.ListN.{length-map}
 use lib.Seq.{append_snoc, get_or_at, map-set, set_at}
-use Rattle.std.proofs.lemmas.List.{drop_all, drop_more, get_or-map, take_more}
+use Rattle.std.proofs.lemmas.List.{drop_more, get_or-map, take_more}
 use Rattle.tokens.specs.Buckets.{added}
 use Rattle.tokens.specs.Units.{grains}
 use Rattle.envelopes.specs.Stored.{flows}
@@ -48,10 +48,6 @@ module _ {B : Type 0} (tell : B → ℕ) (new old : List ℕ) where
   none_written bs told as_many =
       record { told = told; as_many = sym (ap length told) ∙ length-map bs tell; as_many_new = as_many }
 
-  pub all_written : (bs : List B) (i : ℕ) → length bs ≤ i → Written bs i → map tell bs ≡ new
-  all_written bs i past so_far =
-      so_far.told ∙ ap (λ xs. take i new ++ xs) (drop_all i old (omega (arith, so_far.as_many))) ∙ append-nil _ ∙ take_all i new (omega (arith, so_far.as_many_new))
-
 -- each bucket offered its amount
 pub offered_as_many : (vs cs as' : List ℕ) → length vs ≡ length cs → length cs ≤ length as' → length (offered vs cs as') ≡ length cs
 offered_as_many [] [] as' even room = refl
@@ -75,12 +71,6 @@ pub offered_here : (vs cs : List ℕ) (settled : List Settled) (i v c n : ℕ) �
 offered_here vs cs settled i v c n volume count told in_vs in_cs in_settled =
     let amount = get_or-map (λ (s : Settled). s.added) settled i nothing 0 in_settled in
     cc (amount, offered_at vs cs (additions_of settled) i in_vs in_cs (omega (arith, length-map settled (λ (s : Settled). s.added))))
-
-pub as_many_volumes : (column : Column) (rows : List Row) → length (column_volumes column (flows rows)) ≡ length rows
-as_many_volumes column rows = length-map (flows rows) _ ∙ length-map rows _
-
-pub made_as_many : {B : Type 0} (tell : B → ℕ) (bs : List B) (column : Column) (rows : List Row) → map tell bs ≡ column_volumes column (flows rows) → length bs ≡ length rows
-made_as_many tell bs column rows told = sym (length-map bs tell) ∙ ap length told ∙ as_many_volumes column rows
 
 -- the volume that a row gives a bucket
 pub volume_here : (column : Column) (rows : List Row) (i : ℕ) (r : Row) (f : Flow) (s : Supply) → r ≡ get_or rows i r → f ≡ r.flow → s ≡ supply column f → i < length rows → grains s.volume ≡ get_or (column_volumes column (flows rows)) i 0

@@ -1,4 +1,4 @@
-// The buckets of one column, as the caller hands them in: whether they fit the rows, and how they are written.
+// An envelope's buckets, as the caller hands them in: whether they fit its draft, and how they are written.
 ghost use Rattle.std.specs.Prelude.{◌≡◌, ◌*◌, ◌≤◌, map, length};
 ghost use Rattle.envelopes.specs.Drafts.{profile};
 ghost use Rattle.envelopes.specs.Promises.{parted, rank_counts, same as same_numbers, volumes as volumes_of};

@@ -12,6 +12,7 @@ use crate::lane::{Lane, Settled};
 use tokens::bucket::Bucket;
 use tokens::time::Time;
 
+// An enum: of two closures, or of two types of a trait, the clauses below would say more and the code no less.
 #[derive(Clone, Copy)]
 pub(crate) enum Column {
     Green,

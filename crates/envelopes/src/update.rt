@@ -1,10 +1,9 @@
 // An update of an envelope's buckets: all overflows are worked out from the counts before it, then the buckets are
 // written.
-ghost use Rattle.std.specs.Prelude.{◌≡◌, map, length, take, if◌then◌else◌};
+ghost use Rattle.std.specs.Prelude.{◌≡◌, map, length};
 ghost use Rattle.envelopes.specs.Drafts.{profile};
 ghost use Rattle.envelopes.specs.Growth.{grown};
 ghost use Rattle.envelopes.specs.Promises.{in_a_row, parted, volumes as volumes_of};
-ghost use Rattle.envelopes.specs.Updates.{additions_of, green_additions, yellow_additions};
 
 use crate::buckets::offer_each;
 use crate::column::{Column, flow_down};
@@ -12,39 +11,6 @@ use crate::draft::Draft;
 use crate::lane::Settled;
 use tokens::bucket::Bucket;
 use tokens::time::Time;
-
-// Rank 1's green overflow goes to the highest yellow bucket only where CF0 is 1.
-fn only_if(flag: bool, amount: u64) -> u64
-    ensures { result ≡ (if flag then amount else 0) }
-{
-    if flag { amount } else { 0 }
-}
-
-// What the green and the yellow buckets settle in a time, by rank; places past the last rank are spare. Nothing is
-// written.
-fn work_out<B: Bucket>(
-    draft: &Draft,
-    time: Time,
-    greens: &[B],
-    yellows: &[B],
-) -> ([Settled; 8], [Settled; 8])
-    requires greens { length greens.now ≡ length (profile draft.now).flows }
-    requires yellows { length yellows.now ≡ length (profile draft.now).flows }
-    ensures green { take (length (profile draft.now).flows) (additions_of result.0) ≡ green_additions (profile draft.now) time.micros (record { greens = map B.Bucket.count greens.now; yellows = map B.Bucket.count yellows.now }) }
-    ensures yellow { take (length (profile draft.now).flows) (additions_of result.1) ≡ yellow_additions (profile draft.now) time.micros (record { greens = map B.Bucket.count greens.now; yellows = map B.Bucket.count yellows.now }) }
-{
-    let green = flow_down(
-        Column::Green,
-        draft,
-        [Settled::default(); 8],
-        time,
-        0,
-        greens,
-    );
-    let top = only_if(draft.cf0(), green[0].overflow);
-    let yellow = flow_down(Column::Yellow, draft, green, time, top, yellows);
-    (green, yellow)
-}
 
 // Lets all buckets grow by a time.
 pub(crate) fn update<B: Bucket>(draft: &Draft, time: Time, buckets: &mut [B])
@@ -54,7 +20,11 @@ pub(crate) fn update<B: Bucket>(draft: &Draft, time: Time, buckets: &mut [B])
 {
     let flows = draft.rows().len();
     let (greens, yellows) = buckets.split_at_mut(flows);
-    let (green, yellow) = work_out(draft, time, greens, yellows);
+    let nothing = [Settled::default(); 8];
+    let green = flow_down(Column::Green, draft, nothing, time, 0, greens);
+    // rank 1's green overflow goes to the highest yellow bucket only where CF0 is 1
+    let top = if draft.cf0() { green[0].overflow } else { 0 };
+    let yellow = flow_down(Column::Yellow, draft, green, time, top, yellows);
     offer_each(greens, green);
     offer_each(yellows, yellow);
 }

@@ -1,7 +1,7 @@
 use Rattle.std.proofs.Common.{◌<◌, ◌≤◌, length, sym, refl, ap, ◌∙◌, arith, rules}
 use lib.ListN.{length-map}
 use Rattle.envelopes.specs.declared.lane.Settled.{Settled}
-use Rattle.envelopes.proofs.Written.{all_written, none_written, offered_as_many, offered_here, still_old, written_more}
+use Rattle.envelopes.proofs.Written.{none_written, offered_as_many, offered_here, still_old, written_more}
 use Rattle.envelopes.proofs.buckets.offer_each.Goals as goal
 
 pub loop-place-init : goal.loop-place-init
@@ -29,11 +29,3 @@ loop-place-preserved g c =
       written_more _ _ _ _ _ inv.0 within _ (c.offer.ensures.volume ∙ volume),
       written_more _ _ _ _ _ inv.1 within _ told,
     )
-
-pub returns : goal.returns
-returns g c =
-    let past : length c.loop-place.buckets ≤ c.loop-place.place = search rules in
-    record {
-      volumes = all_written _ _ _ _ _ past c.loop-place.invariant.0;
-      counts = all_written _ _ _ _ _ past c.loop-place.invariant.1;
-    }
