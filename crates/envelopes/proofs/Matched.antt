@@ -5,9 +5,9 @@ use Rattle.std.proofs.lemmas.Bool.Decides.{Decides-eqb, same_from_decides}
 use Rattle.std.proofs.lemmas.Iterator.{YieldsList}
 use Rattle.std.proofs.lemmas.Iterator.Consumers.{YieldsList-at, YieldsList-end, YieldsList-turn}
 use Rattle.std.proofs.lemmas.List.{get_or_default, length-map}
+use Rattle.std.proofs.lemmas.List.Elements.{same_from_all_zip}
 use Rattle.std.proofs.lemmas.Slice.Eq.{compares_Decides}
 use Rattle.std.specs.Iterator.{ComparesItemsByEq, Yields}
-use Rattle.std.specs.List.{AllZip}
 use Rattle.tokens.specs.Units.{grains}
 use Rattle.envelopes.specs.Promises.{same, volumes}
 use Rattle.envelopes.specs.Stored.{flows}
@@ -18,14 +18,6 @@ use Rattle.envelopes.specs.declared.row.Row.{Row}
 
 pub same_decides : (ms ns : List ℕ) → Decides (same ms ns) (ms ≡ ns)
 same_decides = compares_Decides same (search rules)
-
-equal_items : (xs ys : List ℕ) → AllZip (λ x y. eqb x y ≡ true) xs ys → xs ≡ ys
-equal_items [] [] alike = refl
-equal_items [] (y ∷ ys) alike = absurd alike
-equal_items (x ∷ xs) [] alike = absurd alike
-equal_items (x ∷ xs) (y ∷ ys) alike =
-    let first = (Decides-eqb x y).0 alike.0 in
-    let rest = equal_items xs ys alike.1 in cc
 
 -- two iterators over numbers, each of which gave some items and then one answer more
 module _ {S T : Type 0} {steps : S → Option ℕ → S → Type 0} {others : T → Option ℕ → T → Type 0} {s : S} {t : T} {ms ns : List ℕ} (first : YieldsList steps (λ x. x) s ms) (second : YieldsList others (λ x. x) t ns) (xs ys : List ℕ) (s' s'' : S) (t' t'' : T) (came : Yields steps s xs s') (went : Yields others t ys t'') (equal : xs ≡ ys) (r : Bool) where
@@ -52,7 +44,7 @@ module _ {S T : Type 0} {steps : S → Option ℕ → S → Type 0} {others : T 
 -- `eq` of two iterators over numbers compares their lists
 pub same_from_eq : {S T : Type 0} {steps : S → Option ℕ → S → Type 0} {others : T → Option ℕ → T → Type 0} {s : S} {t : T} {ms ns : List ℕ} (r : Bool) → ComparesItemsByEq steps (λ x y. y ≡ x) others s t eqb r → YieldsList steps (λ x. x) s ms → YieldsList others (λ x. x) t ns → r ≡ same ms ns
 same_from_eq {ms = ms} {ns = ns} r d first second =
-    same_from_decides r (same ms ns) (decided first (YieldsList-at d.7 second) d.1 d.2 d.8.0 d.5 d.6 d.9.0 d.8.1 d.9.1 (equal_items d.1 d.2 d.10) r d.3 d.4 d.8.2 d.9.2 d.11) (same_decides ms ns)
+    same_from_decides r (same ms ns) (decided first (YieldsList-at d.7 second) d.1 d.2 d.8.0 d.5 d.6 d.9.0 d.8.1 d.9.1 (sym (same_from_all_zip _ d.1 d.2 d.10 (λ x y e. sym ((Decides-eqb x y).0 e)))) r d.3 d.4 d.8.2 d.9.2 d.11) (same_decides ms ns)
 
 -- the volumes of a draft's buckets, read row by row
 pub read_by_row : (f : Flow → ℕ) (rows : List Row) → map (λ r. f r.flow) rows ≡ map f (flows rows)
