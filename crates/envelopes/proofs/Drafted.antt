@@ -1,5 +1,5 @@
 -- What holds of the rows of every draft. Assumes nothing.
-use Rattle.std.proofs.Common.{◌≡◌, ◌≤◌, ◌&&◌, List, [], ◌∷◌, length, sym, ap, ◌∙◌, arith}
+use Rattle.std.proofs.Common.{◌≡◌, ◌≤◌, List, [], ◌∷◌, length, sym, ap, ◌∙◌, arith}
 use lib.ListN.{length-map}
 use Rattle.std.specs.List.{AllByRecursion}
 use Rattle.tokens.specs.Units.{highest_rate}
@@ -17,7 +17,7 @@ module _ (d : Draft) where
   few_flows = omega (arith, length-map (rows_of d) (λ r. r.flow), d.few)
 
   pub rates_within : all_rates (profile d).flows ≤ highest_rate
-  rates_within = omega (arith, d.rates_sum, d.rates_bound)
+  rates_within = d.rates
 
   module _ (rows : List Row) (told : rows ≡ rows_of d) where
     pub as_many_rows : length rows ≡ length (profile d).flows
@@ -33,6 +33,6 @@ all_reach (r ∷ rows) = (r.green_reaches, all_reach rows)
 pub lawful : (d : Draft) → Lawful (profile d)
 lawful d =
     record {
-      not_both_flags = ap (λ b. d.cf0 && b) (sym d.coupled_flag) ∙ d.not_both;
+      not_both_flags = d.not_both;
       green_rates_reached = all_reach (rows_of d);
     }

@@ -1,5 +1,4 @@
 pub mod Above
-pub mod Adding
 pub mod Bounds
 pub mod Causes
 pub mod Columns

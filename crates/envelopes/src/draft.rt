@@ -17,14 +17,9 @@ pub const MOST_FLOWS: usize = 8;
 pub struct Draft {
     rows: ArrayVec<Row, MOST_FLOWS>,
     cf0: bool,
-    // the sum of all rates, and whether some CF is 1
-    rates: u64,
-    some_cf: bool,
     ghost some: { 1 ≤ array_vec_len rows },
     // known of the rows by their type, but told only of their slices
     ghost few: { array_vec_len rows ≤ most_flows },
-    ghost rates_sum: { rates ≡ all_rates (flows rows.items) },
-    ghost rates_bound: { rates ≤ highest_rate },
-    ghost coupled_flag: { some_cf ≡ coupled (flows rows.items) },
-    ghost not_both: { (cf0 && some_cf) ≡ false },
+    ghost rates: { all_rates (flows rows.items) ≤ highest_rate },
+    ghost not_both: { (cf0 && coupled (flows rows.items)) ≡ false },
 }

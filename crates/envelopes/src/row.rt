@@ -58,6 +58,13 @@ impl Row {
     {
         self.flow
     }
+
+    // The sum of its green and its yellow rate.
+    pub(crate) fn rates(&self) -> u64
+        ensures { result ≡ self.now.flow.green.rate + self.now.flow.yellow.rate }
+    {
+        self.flow.green.rate + self.flow.yellow.rate
+    }
 }
 
 /// A row of nothing: its rates and volumes are 0, and it has neither a maximum nor CF.

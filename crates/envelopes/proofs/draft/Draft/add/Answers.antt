@@ -1,15 +1,22 @@
-use Rattle.std.proofs.Common.{◌||◌, sym, ap, ◌∙◌, arith}
+use Rattle.std.proofs.Common.{◌≡◌, ◌+◌, false, ◌&&◌, ◌||◌, List, [], ◌∷◌, ◌++◌, refl, ap, ◌∙◌, arith, rules, tests}
+use Rattle.std.proofs.lemmas.List.Recursion.{or_push}
 use Rattle.envelopes.specs.Profiles.{all_rates, coupled}
 use Rattle.envelopes.specs.Stored.{flows}
-use Rattle.envelopes.proofs.Adding.{coupled_with_one_more, rates_with_one_more}
+use Rattle.envelopes.specs.declared.row.Row.{Row}
 use Rattle.envelopes.proofs.draft.Draft.add.Goals as goal
 
-pub invariant_of-self-clause-rates_sum : goal.invariant_of-self-clause-rates_sum
-invariant_of-self-clause-rates_sum c =
-    let was = c.args.self.now in
-    omega (arith, was.rates_sum, ap (λ f. f.green.rate) c.flow-flow.ensures, ap (λ f. f.yellow.rate) c.flow-flow.ensures, ap (λ rows. all_rates (flows rows)) c.push.ensures.items, rates_with_one_more was.rows.items c.args.row)
+rates_with_one_more : (rows : List Row) (r : Row) → all_rates (flows (rows ++ r ∷ [])) ≡ r.flow.green.rate + r.flow.yellow.rate + all_rates (flows rows)
+rates_with_one_more [] r = omega arith
+rates_with_one_more (first ∷ rows) r = omega (arith, rates_with_one_more rows r)
 
-pub invariant_of-self-clause-coupled_flag : goal.invariant_of-self-clause-coupled_flag
-invariant_of-self-clause-coupled_flag c =
-    let was = c.args.self.now in
-    ap (λ b. b || c.flow-flow.result.cf) was.coupled_flag ∙ ap (λ f. coupled (flows was.rows.items) || f.cf) c.flow-flow.ensures ∙ sym (coupled_with_one_more was.rows.items c.args.row) ∙ ap (λ rows. coupled (flows rows)) (sym c.push.ensures.items)
+pub invariant_of-self-clause-rates : goal.invariant_of-self-clause-rates
+invariant_of-self-clause-rates c =
+    let stored = ap (λ rs. all_rates (flows rs)) c.push.ensures.items in
+    omega (arith, c.if-rates-gt-HIGHEST_RATE.false, c.rates.ensures, c.rates-2.ensures, stored, rates_with_one_more c.args.self.now.rows.items c.args.row)
+
+pub invariant_of-self-clause-not_both : goal.invariant_of-self-clause-not_both
+invariant_of-self-clause-not_both c =
+    let not_both : (c.args.self.now.cf0 && (coupled (flows c.args.self.now.rows.items) || c.args.row.flow.cf)) ≡ false = search (rules, tests) in
+    let stored = ap (λ rs. coupled (flows rs)) c.push.ensures.items in
+    let more = or_push (λ rs. coupled (flows rs)) (λ r. r.flow.cf) refl (λ _ _. refl) c.args.self.now.rows.items c.args.row in
+    ap (λ b. c.args.self.now.cf0 && b) (stored ∙ more) ∙ not_both
