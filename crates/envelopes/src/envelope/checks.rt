@@ -1,7 +1,7 @@
 // What the calls upon an envelope are checked for, in the order of the refusals' numbers.
 ghost use Rattle.std.specs.Prelude.{◌≡◌, [], ◌∷◌, length};
 ghost use Rattle.envelopes.specs.Drafts.{profile};
-ghost use Rattle.envelopes.specs.Histories.{sees};
+ghost use Rattle.envelopes.specs.Envelopes.{Checked};
 ghost use Rattle.envelopes.specs.Promises.{advance_causes, bucket_cause, judge_causes, rank_cause, read_causes};
 ghost use Rattle.envelopes.specs.Refusals.{told, told_by};
 ghost use Rattle.tokens.specs.Refusals.{unless_refused};
@@ -23,7 +23,7 @@ impl Envelope {
 
     // Refuses buckets that are not two for each flow, with the flows' volumes.
     fn check_buckets<B: Bucket>(&self, buckets: &[B]) -> Result<(), Refusal>
-        ensures { told result ≡ unless_refused (bucket_cause (profile self.now.draft) (sees B.Bucket.volume B.Bucket.count self.now.latest.micros buckets.now) ∷ []) tt }
+        ensures { Checked B.Bucket.volume B.Bucket.count self.now buckets.now (λ p s. bucket_cause p s ∷ []) (told result) tt }
     {
         if fit(&self.draft, buckets) {
             Ok(())
@@ -48,7 +48,7 @@ impl Envelope {
         buckets: &[B],
         moment: u64,
     ) -> Result<Time, Refusal>
-        ensures { told_by (λ time. time.micros) result ≡ unless_refused (advance_causes (profile self.now.draft) (sees B.Bucket.volume B.Bucket.count self.now.latest.micros buckets.now) moment) moment }
+        ensures { Checked B.Bucket.volume B.Bucket.count self.now buckets.now (λ p s. advance_causes p s moment) (told_by (λ time. time.micros) result) moment }
     {
         self.check_buckets(buckets)?;
         Ok(self.latest.next(moment)?)
@@ -60,7 +60,7 @@ impl Envelope {
         buckets: &[B],
         request: Request,
     ) -> Result<Time, Refusal>
-        ensures { told_by (λ time. time.micros) result ≡ unless_refused (judge_causes (profile self.now.draft) (sees B.Bucket.volume B.Bucket.count self.now.latest.micros buckets.now) request) request.moment }
+        ensures { Checked B.Bucket.volume B.Bucket.count self.now buckets.now (λ p s. judge_causes p s request) (told_by (λ time. time.micros) result) request.moment }
     {
         self.check_buckets(buckets)?;
         if request.tokens == 0 {
@@ -71,7 +71,7 @@ impl Envelope {
     }
 
     pub(crate) fn check_read<B: Bucket>(&self, buckets: &[B], rank: u8) -> Result<(), Refusal>
-        ensures { told result ≡ unless_refused (read_causes (profile self.now.draft) (sees B.Bucket.volume B.Bucket.count self.now.latest.micros buckets.now) rank) tt }
+        ensures { Checked B.Bucket.volume B.Bucket.count self.now buckets.now (λ p s. read_causes p s rank) (told result) tt }
     {
         self.check_buckets(buckets)?;
         self.check_rank(rank)
