@@ -2,9 +2,6 @@
 use Rattle.std.proofs.Common.{◌≡◌, ℕ, Bool, true, false, cond, List, [], ◌∷◌, refl, arith}
 use Rattle.tokens.specs.Refusals.{Cause, Told, answered, kept_if_refused, refused, unless_refused}
 
-pub false_is_not_true : false ≡ true → ⊥
-false_is_not_true e = let z : ◌≡◌ {A = ℕ} 0 1 = cc in omega arith
-
 module _ {A S : Type 0} (answer told : A) (before after : S) where
   one_cause : (applies : Bool) (number : ℕ) (rest : Told A) (left : S) → (rest ≡ answered told → left ≡ after) → cond applies (refused number) rest ≡ answered told → cond applies before left ≡ after
   one_cause true number rest left onward answers = let z : ◌≡◌ {A = ℕ} 0 1 = cc in absurd (omega arith)

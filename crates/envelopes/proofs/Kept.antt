@@ -1,6 +1,7 @@
 -- A call that checks first and then does what it is for keeps its promise. Assumes nothing.
-use Rattle.std.proofs.Common.{◌≡◌, ℕ, ◌*◌, ◌≤◌, Bool, true, false, cond, not, ◌||◌, eqb, ltb, List, [], ◌∷◌, length, IsErrAnd, Result, sym, refl, ap, ◌∙◌, arith}
+use Rattle.std.proofs.Common.{◌≡◌, ℕ, ◌*◌, ◌≤◌, Bool, true, false, cond, ◌||◌, eqb, ltb, List, [], ◌∷◌, length, IsErrAnd, Result, sym, refl, ap, ◌∙◌, arith}
 use Rattle.std.proofs.lemmas.Result.{err_from_is_err_and}
+use Rattle.std.proofs.lemmas.Bool.{not-false}
 use Rattle.std.proofs.lemmas.Bool.Decides.{nat_tests}
 use Rattle.tokens.specs.Meters.{moment_causes}
 use Rattle.tokens.specs.Refusals.{Cause, Told, answered, kept_if_refused, refused, unless_refused}
@@ -83,13 +84,9 @@ moment_passed latest moment passed =
     let first = first_passed (record { applies = ltb moment latest; number = 10 }) (late ∷ []) passed in
     let second = first_passed late [] first.1 in (grind (arith, nat_tests, first.0), grind (arith, nat_tests, second.0))
 
-does_fit : (b : Bool) → not b ≡ false → b ≡ true
-does_fit true fits = refl
-does_fit false fits = let z : ◌≡◌ {A = ℕ} 0 1 = cc in absurd (omega arith)
-
 pub buckets_passed : (p : Profile) (s : Seen) (cs : List Cause) → answered tt ≡ checked (bucket_cause p s ∷ cs) → (s.volumes ≡ volumes p.flows) × (answered tt ≡ checked cs)
 buckets_passed p s cs passed =
-    let first = first_passed (bucket_cause p s) cs passed in (sym ((same_decides _ _).0 (does_fit _ first.0)), first.1)
+    let first = first_passed (bucket_cause p s) cs passed in (sym ((same_decides _ _).0 (not-false _ first.0)), first.1)
 
 pub rank_passed : (p : Profile) (rank : ℕ) (cs : List Cause) → answered tt ≡ checked (rank_cause p rank ∷ cs) → (1 ≤ rank) × (rank ≤ length p.flows) × (answered tt ≡ checked cs)
 rank_passed p rank cs passed =

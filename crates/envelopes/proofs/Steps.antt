@@ -2,6 +2,7 @@
 -- from. Assumes nothing.
 use Rattle.std.proofs.Common.{◌≡◌, ℕ, ◌+◌, ◌-◌, Bool, true, false, cond, List, [], ◌∷◌, length, sym, refl, ap, ◌∙◌, subst, arith, length-append, length-drop, length-take, take_at, drop_at}
 use lib.ListN.{length-map}
+use Rattle.std.proofs.lemmas.Bool.{false≢true}
 use Rattle.std.proofs.lemmas.Bool.Decides.{nat_tests}
 use Rattle.std.specs.List.{AllByRecursion}
 use Rattle.tokens.specs.Refusals.{Cause, answered, refused, unless_refused}
@@ -10,7 +11,7 @@ use Rattle.envelopes.specs.Histories.{accepted, accepted_fill}
 use Rattle.envelopes.specs.Profiles.{Profile}
 use Rattle.envelopes.specs.Promises.{Call, Keeps, Promise, Seen, advance, bucket_cause, by_rank, fill, in_a_row, judge, read, same, volumes}
 use Rattle.envelopes.specs.declared.flow.Flow.{Flow}
-use Rattle.envelopes.proofs.Causes.{answered_leaves, false_is_not_true}
+use Rattle.envelopes.proofs.Causes.{answered_leaves}
 use Rattle.envelopes.proofs.Fitting.{full_fits, growth_fits, spending_fits}
 use Rattle.envelopes.proofs.Stories.{Fits, Step, at, full, just_filled, next, state}
 
@@ -112,7 +113,7 @@ module _ (p : Profile) (s : Seen) where
     fits_at moment = growth_fits p (by_rank p s) fits (moment - s.latest)
 
     pub call_is_a_step : (c : Call) (left : Seen) → (accepted c ≡ true → Promise p s c left) → accepted_fill c ≡ false → Step p (state p s) c × (state p (cond (accepted c) left s) ≡ next p (state p s) c)
-    call_is_a_step (fill (answered done)) left keeps other = absurd (false_is_not_true (sym other))
+    call_is_a_step (fill (answered done)) left keeps other = absurd (false≢true (sym other))
     call_is_a_step (fill (refused number)) left keeps other = (tt, refl)
     call_is_a_step (judge q (answered given)) left keeps other =
         let g = granted _ _ _ _ _ _ (keeps refl) in

@@ -4,21 +4,16 @@ use Rattle.tokens.specs.Refusals.{answered}
 use Rattle.envelopes.specs.Drafts.{profile}
 use Rattle.envelopes.specs.Histories.{sees}
 use Rattle.envelopes.specs.Promises.{counts_at, in_a_row, judge_causes, judged}
-use Rattle.envelopes.proofs.Causes.{false_is_not_true}
 use Rattle.envelopes.proofs.Judged.{colour_told, counts_left, seen_by_parts}
 use Rattle.envelopes.proofs.Kept.{keeps_by_answer, keeps_by_refusal, passed_as, passed_on, refused_as, request_passed}
 use Rattle.envelopes.proofs.Matched.{fitting_are_even}
 use Rattle.envelopes.proofs.envelope.Envelope.judge.Goals as goal
 
-pub returns-in_err-moment : goal.returns-in_err-moment
-returns-in_err-moment g c =
+pub returns-in_err-moment-clause-promise : goal.returns-in_err-moment-clause-promise
+returns-in_err-moment-clause-promise g c =
     let self = c.args.self.now in
     let causes = judge_causes (profile self.draft) (sees g.B.Bucket.volume g.B.Bucket.count self.latest.micros c.args.buckets.now) c.args.request in
-    record {
-      promise = keeps_by_refusal _ causes _ _ _ _ _ (refused_as c.args.request.moment _ causes c.in_err-moment.ensures) (passed_on c.from_residual.result _ c.from_residual.ensures.1) refl;
-      draft = refl;
-      refused = λ _. (refl, refl);
-    }
+    keeps_by_refusal _ causes _ _ _ _ _ (refused_as c.args.request.moment _ causes c.in_err-moment.ensures) (passed_on c.from_residual.result _ c.from_residual.ensures.1) refl
 
 pub move_to-requires : goal.move_to-requires
 move_to-requires g c =
@@ -37,8 +32,8 @@ declare-requires g c =
     let flows = ap (λ d. length (profile d).flows) c.move_to.ensures.draft in
     record { even = omega (arith, even); some_rank = known.1; rank_bound = omega (arith, known.2) }
 
-pub returns : goal.returns
-returns g c =
+pub returns-clause-promise : goal.returns-clause-promise
+returns-clause-promise g c =
     let self = c.args.self.now in
     let bs = c.args.buckets.now in
     let p = profile self.draft in
@@ -51,8 +46,4 @@ returns g c =
     let flows = ap (λ d. length (profile d).flows) c.move_to.ensures.draft in
     let given = colour_told p seen fit even q _ flows _ now _ c.declare.ensures.value in
     let counts = counts_left p seen fit even q _ flows _ now _ c.declare.ensures.value _ c.declare.ensures.counts in
-    record {
-      promise = keeps_by_answer _ (judge_causes p seen q) _ _ (judged p seen q) _ passed.0 (ap answered given) (seen_by_parts _ _ _ (judged p seen q) (ap (λ time. time.micros) c.move_to.ensures.latest ∙ passed.1) (c.declare.ensures.volumes ∙ c.move_to.ensures.volumes) counts);
-      draft = c.move_to.ensures.draft;
-      refused = λ e. absurd (false_is_not_true e);
-    }
+    keeps_by_answer _ (judge_causes p seen q) _ _ (judged p seen q) _ passed.0 (ap answered given) (seen_by_parts _ _ _ (judged p seen q) (ap (λ time. time.micros) c.move_to.ensures.latest ∙ passed.1) (c.declare.ensures.volumes ∙ c.move_to.ensures.volumes) counts)
