@@ -28,7 +28,7 @@ module _ (d : Draft) where
 
 all_reach : (rows : List Row) → AllByRecursion (λ f. ReachesItsRate f.green) (flows rows)
 all_reach [] = tt
-all_reach (r ∷ rows) = (r.green_reaches, all_reach rows)
+all_reach (r ∷ rows) = (r.green.reaches, all_reach rows)
 
 pub lawful : (d : Draft) → Lawful (profile d)
 lawful d =

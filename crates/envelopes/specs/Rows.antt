@@ -1,7 +1,8 @@
--- Why no row is made of a flow. Assumes nothing.
-use Rattle.std.specs.Prelude.{ℕ, ◌+◌, Bool, false, ◌||◌, List, [], ◌∷◌, Some, None, Option, nat_lt}
+-- Why no row is made of a flow, and what holds of every row. Assumes nothing.
+use Rattle.std.specs.Prelude.{ℕ, ◌+◌, ◌≤◌, Bool, false, ◌||◌, List, [], ◌∷◌, Some, None, Option, nat_lt}
 use Rattle.tokens.specs.Refusals.{Cause}
 use Rattle.tokens.specs.Units.{highest_rate}
+use Rattle.envelopes.specs.Profiles.{ReachesItsRate, maximum_or_0}
 use Rattle.envelopes.specs.declared.flow.Flow.{Flow}
 use Rattle.envelopes.specs.declared.flow.Supply.{Supply}
 
@@ -28,6 +29,12 @@ row_causes f =
       applies = nat_lt largest_flow_volume f.green.volume || nat_lt largest_flow_volume f.yellow.volume;
       number = 3;
     } ∷ []
+
+-- what holds of each of a row's two supplies
+pub record LawfulSupply (s : Supply) : Type 0 where
+  pub maximum : maximum_or_0 s.maximum ≤ highest_rate
+  pub reaches : ReachesItsRate s
+  pub volume : s.volume ≤ largest_flow_volume
 
 -- a flow that is entitled to nothing
 abbrev pub no_supply : Supply

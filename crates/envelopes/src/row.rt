@@ -1,8 +1,7 @@
 // A row: a flow that an envelope can keep its word to.
 ghost use Rattle.std.specs.Prelude.{◌≡◌, ◌+◌, ◌≤◌};
-ghost use Rattle.envelopes.specs.Profiles.{ReachesItsRate, maximum_or_0};
 ghost use Rattle.envelopes.specs.Refusals.{told_by};
-ghost use Rattle.envelopes.specs.Rows.{largest_flow_volume, nothing, row_causes, wrong_maximum};
+ghost use Rattle.envelopes.specs.Rows.{LawfulSupply, nothing, row_causes, wrong_maximum};
 ghost use Rattle.tokens.specs.Refusals.{unless_refused};
 ghost use Rattle.tokens.specs.Units.{highest_rate};
 
@@ -17,12 +16,8 @@ pub const LARGEST_FLOW_VOLUME: u64 = 1_000_000_000;
 pub struct Row {
     flow: Flow,
     ghost rates: { flow.green.rate + flow.yellow.rate ≤ highest_rate },
-    ghost green_maximum: { maximum_or_0 flow.green.maximum ≤ highest_rate },
-    ghost yellow_maximum: { maximum_or_0 flow.yellow.maximum ≤ highest_rate },
-    ghost green_reaches: { ReachesItsRate flow.green },
-    ghost yellow_reaches: { ReachesItsRate flow.yellow },
-    ghost green_volume: { flow.green.volume ≤ largest_flow_volume },
-    ghost yellow_volume: { flow.yellow.volume ≤ largest_flow_volume },
+    ghost green: { LawfulSupply flow.green },
+    ghost yellow: { LawfulSupply flow.yellow },
 }
 
 fn has_wrong_maximum(supply: Supply) -> bool
