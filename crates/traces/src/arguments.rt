@@ -48,16 +48,24 @@ pub enum Misuse {
     UnknownForm,
 }
 
-/// What the user is told.
+impl Misuse {
+    /// What the user is told.
+    pub fn text(self) -> &'static str
+        ensures { result.now ≡ misuse_text self }
+    {
+        match self {
+            Misuse::Rate => "RATE is not a whole number",
+            Misuse::Burst => "BURST is not a whole number",
+            Misuse::UnknownForm => "FORM is none of token, schedule and leaky",
+        }
+    }
+}
+
 impl fmt::Display for Misuse {
     ghost output = { λ misuse. Some (misuse_text misuse) };
 
     fn fmt<W: fmt::Write>(&self, f: &mut fmt::Formatter<W>) -> fmt::Result {
-        f.pad(match self {
-            Misuse::Rate => "RATE is not a whole number",
-            Misuse::Burst => "BURST is not a whole number",
-            Misuse::UnknownForm => "FORM is none of token, schedule and leaky",
-        })
+        f.pad(self.text())
     }
 }
 
