@@ -1,4 +1,4 @@
--- How rows are stored. Assumes nothing.
+-- The flows that rows are of, and how many there are at most. Assumes nothing.
 use Rattle.std.specs.Prelude.{ℕ, List, map}
 use Rattle.envelopes.specs.declared.flow.Flow.{Flow}
 use Rattle.envelopes.specs.declared.row.Row.{Row}
