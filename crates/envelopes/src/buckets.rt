@@ -1,4 +1,6 @@
 // An envelope's buckets, as the caller hands them in: whether they fit its draft, and how they are written.
+// Here and in what calls these, each function says of its own buckets that the volumes stay: a name for that would be
+// no shorter.
 ghost use Rattle.std.specs.Prelude.{◌≡◌, ◌*◌, ◌≤◌, map, length};
 ghost use Rattle.envelopes.specs.Drafts.{profile};
 ghost use Rattle.envelopes.specs.Promises.{parted, rank_counts, same as same_numbers, volumes as volumes_of};
