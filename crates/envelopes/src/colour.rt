@@ -16,7 +16,7 @@ impl fmt::Display for Colour {
     ghost output = { λ colour. Some (colour_name colour) };
 
     fn fmt<W: fmt::Write>(&self, f: &mut fmt::Formatter<W>) -> fmt::Result {
-        f.write_str(match self {
+        f.pad(match self {
             Colour::Green => "Green",
             Colour::Yellow => "Yellow",
             Colour::Red => "Red",

@@ -67,8 +67,6 @@ impl Default for Row {
     ghost is_default = { λ row. row.flow ≡ nothing };
 
     fn default() -> Self {
-        Row {
-            flow: Flow::default(),
-        }
+        Row::new(Flow::default()).unwrap()
     }
 }

@@ -104,6 +104,6 @@ impl Windows {
                 return Ok(Ok(Answer::Moved));
             }
         }
-        Ok(Ok(Answer::from(passes)))
+        Ok(Ok(if passes { Answer::Yes } else { Answer::No }))
     }
 }
