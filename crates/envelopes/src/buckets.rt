@@ -1,6 +1,7 @@
 // An envelope's buckets, as the caller hands them in: whether they fit its draft, and how they are written.
-// Here and in what calls these, each function says of its own buckets that the volumes stay: a name for that would be
-// no shorter.
+// Here and in what calls these, each function says of its own buckets that the volumes stay, and splits them itself into
+// the green and the yellow half: a name for the clause would be no shorter, and a function that hands out both halves
+// would have to say how they are written back.
 ghost use Rattle.std.specs.Prelude.{◌≡◌, ◌*◌, ◌≤◌, map, length};
 ghost use Rattle.envelopes.specs.Drafts.{profile};
 ghost use Rattle.envelopes.specs.Promises.{parted, rank_counts, same as same_numbers, volumes as volumes_of};
@@ -8,13 +9,13 @@ ghost use Rattle.envelopes.specs.Stored.{most_flows};
 ghost use Rattle.envelopes.specs.Updates.{additions_of, column_volumes, offered};
 
 use crate::column::Column;
-use crate::draft::Draft;
+use crate::draft::{Draft, MOST_FLOWS};
 use crate::lane::Settled;
 use tokens::bucket::Bucket;
 use tokens::units::GRAINS_PER_TOKEN;
 
-// Offers each bucket what it adds.
-pub(crate) fn offer_each<B: Bucket>(buckets: &mut [B], settled: [Settled; 8])
+// Offers each bucket what it adds. A bucket is a plain value, as was asked for: copied out, told and written back.
+pub(crate) fn offer_each<B: Bucket>(buckets: &mut [B], settled: [Settled; MOST_FLOWS])
     requires { length buckets.old ≤ most_flows }
     ensures volumes { map B.Bucket.volume buckets.new ≡ map B.Bucket.volume buckets.old }
     ensures counts { map B.Bucket.count buckets.new ≡ offered (map B.Bucket.volume buckets.old) (map B.Bucket.count buckets.old) (additions_of settled) }

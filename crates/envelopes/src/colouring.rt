@@ -10,7 +10,7 @@ use crate::draft::Draft;
 use tokens::bucket::Bucket;
 use tokens::units::grains;
 
-// The whole amount is spent from the bucket at a place, or nothing.
+// The whole amount is spent from the bucket at a place, or nothing. The bucket is copied out, told and written back.
 fn spend_at<B: Bucket>(buckets: &mut [B], place: usize, amount: u64) -> bool
     requires { place < length buckets.old }
     ensures value { result ≡ covers (slice_index (map B.Bucket.count buckets.old) place) amount }

@@ -6,7 +6,7 @@ ghost use Rattle.envelopes.specs.Income.{income};
 ghost use Rattle.envelopes.specs.Updates.{additions, additions_of, lane as lane_of, lanes, overflows_of, supply as supply_of};
 ghost use Rattle.tokens.specs.Units.{day_end, highest_rate};
 
-use crate::draft::Draft;
+use crate::draft::{Draft, MOST_FLOWS};
 use crate::flow::{Flow, Supply};
 use crate::lane::{Lane, Settled};
 use tokens::bucket::Bucket;
@@ -52,22 +52,22 @@ impl Column {
 }
 
 // What each bucket of a column settles, from the highest rank down and by the counts as they are; the yellow column is
-// fed by what the green one settled. What comes to the highest rank from outside is `top`. Places past the last rank
-// are spare.
+// fed by what the green one settled. What comes to the highest rank from outside is `top`. An array of eight by value
+// carries all that, as was asked for, before any bucket is written; places past the last rank are spare.
 pub(crate) fn flow_down<B: Bucket>(
     column: Column,
     draft: &Draft,
-    greens: [Settled; 8],
+    greens: [Settled; MOST_FLOWS],
     time: Time,
     top: u64,
     buckets: &[B],
-) -> [Settled; 8]
+) -> [Settled; MOST_FLOWS]
     requires even { length buckets.now ≡ length (profile draft.now).flows }
     requires income { income time.micros top (lanes column (profile draft.now).flows (overflows_of greens) (map B.Bucket.count buckets.now)) ≤ highest_rate * day_end }
     ensures added { take (length (profile draft.now).flows) (additions_of result) ≡ additions time.micros top (lanes column (profile draft.now).flows (overflows_of greens) (map B.Bucket.count buckets.now)) }
     ensures over { take (length (profile draft.now).flows) (overflows_of result) ≡ overflows time.micros top (lanes column (profile draft.now).flows (overflows_of greens) (map B.Bucket.count buckets.now)) }
 {
-    let mut settled = [Settled::default(); 8];
+    let mut settled = [Settled::default(); MOST_FLOWS];
     let mut handed = top;
     for (place, (row, bucket)) in draft.rows().iter().zip(buckets).enumerate().rev() {
         let lane = column.lane(row.flow(), greens[place].overflow, bucket.count());

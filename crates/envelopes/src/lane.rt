@@ -19,7 +19,7 @@ pub(crate) struct Lane {
     pub(crate) count: u64,
 }
 
-// What a bucket adds, what it does not, and what of that it hands down.
+// What a bucket adds, what it does not, and what of that it hands down: all, or nothing where it is withheld.
 #[derive(Clone, Copy, Default)]
 pub(crate) struct Settled {
     pub(crate) added: u64,

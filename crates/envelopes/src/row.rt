@@ -25,7 +25,7 @@ fn has_wrong_maximum(supply: Supply) -> bool
 {
     supply
         .maximum
-        .is_some_and(|maximum| maximum > HIGHEST_RATE || maximum < supply.rate)
+        .is_some_and(|maximum| !(supply.rate..=HIGHEST_RATE).contains(&maximum))
 }
 
 impl Row {

@@ -7,7 +7,7 @@ ghost use Rattle.envelopes.specs.Promises.{in_a_row, parted, volumes as volumes_
 
 use crate::buckets::offer_each;
 use crate::column::{Column, flow_down};
-use crate::draft::Draft;
+use crate::draft::{Draft, MOST_FLOWS};
 use crate::lane::Settled;
 use tokens::bucket::Bucket;
 use tokens::time::Time;
@@ -20,7 +20,7 @@ pub(crate) fn update<B: Bucket>(draft: &Draft, time: Time, buckets: &mut [B])
 {
     let flows = draft.rows().len();
     let (greens, yellows) = buckets.split_at_mut(flows);
-    let nothing = [Settled::default(); 8];
+    let nothing = [Settled::default(); MOST_FLOWS];
     let green = flow_down(Column::Green, draft, nothing, time, 0, greens);
     // rank 1's green overflow goes to the highest yellow bucket only where CF0 is 1
     let top = if draft.cf0() { green[0].overflow } else { 0 };

@@ -52,6 +52,7 @@ pub fn alike<M: Meter, N: Meter>(mut m: M, mut n: N, calls: &[Call]) -> bool
     ensures law { AnswerAlike M.Meter.meaning N.Meter.meaning }
     ensures limits { KeepsToLimits M.Meter.meaning }
 {
+    // a loop: of a closure that changes what it captures, a chain tells nothing
     for call in calls {
         let one = put(&mut m, *call);
         let other = put(&mut n, *call);

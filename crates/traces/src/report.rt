@@ -43,6 +43,7 @@ fn write_packet(
     ensures { OnOk result (string_bytes out.new ≡ string_bytes out.old ++ packet_line number packet passes) }
 {
     let Packet { tokens, moment } = packet;
+    // two words of one line
     let verdict = if passes { "yes" } else { "no" };
     writeln!(out, "{number} {tokens} {moment} {verdict}")
 }

@@ -36,7 +36,7 @@ impl Envelope {
     fn check_rank(&self, rank: u8) -> Result<(), Refusal>
         ensures { told result ≡ unless_refused (rank_cause (profile self.now.draft) rank ∷ []) tt }
     {
-        if rank == 0 || usize::from(rank) > self.flows() {
+        if !(1..=self.flows()).contains(&usize::from(rank)) {
             return Err(Refusal::Rank);
         }
         Ok(())
