@@ -48,7 +48,7 @@ fn any_flow(chance: &mut Chance) -> Flow {
     };
     let yellow = Supply {
         rate: chance.between(0, 1),
-        maximum: Some(100_000_000),
+        maximum: Some(HIGHEST_RATE),
         volume: chance.between(0, 1_000),
     };
     let cf = chance.one_in(12);

@@ -1,4 +1,5 @@
 // Worked figures, upon both kinds of bucket.
+use crate::causes::Cause;
 use crate::envelope_calls::{Call, Told};
 use crate::opened::Opened;
 use crate::profiles::Profile;
@@ -12,14 +13,8 @@ use tokens::bucket::Bucket;
 use tokens::counting::CountingBucket;
 use tokens::deficit::DeficitBucket;
 
-// What a call tells, or the number under which customers know its refusal.
-type Figure = Result<Told, u8>;
-
-const NOTHING: Supply = Supply {
-    rate: 0,
-    maximum: None,
-    volume: 0,
-};
+// What a call tells, or why it is refused.
+type Figure = Result<Told, Cause>;
 
 const GREEN: Figure = Ok(Told::Colour(Colour::Green));
 
@@ -31,7 +26,7 @@ fn supply(rate: u64, volume: u64) -> Supply {
     Supply {
         rate,
         volume,
-        ..NOTHING
+        ..Supply::default()
     }
 }
 
@@ -39,7 +34,7 @@ fn flow(green: Supply, yellow: Supply) -> Flow {
     Flow {
         green,
         yellow,
-        cf: false,
+        ..Flow::default()
     }
 }
 
@@ -69,7 +64,10 @@ fn figure<B: Bucket>(
     let mut opened = Opened::<B>::new(rt.alloc(), profile)?;
     opened.fill()?;
     for (call, told) in list {
-        assert_eq!(rt; opened.put(*call).map_err(Refusal::number), *told);
+        assert_eq!(rt;
+            opened.put(*call).map_err(Refusal::number),
+            told.map_err(Cause::number)
+        );
     }
     Ok(())
 }
@@ -90,7 +88,7 @@ fn in_both_kinds(
 fn six_records(rt: HostRuntime) -> Result<(), Fail> {
     let flows = [
         flow(supply(0, 1_000), supply(500, 2_000)),
-        flow(supply(1_000, 1_500), NOTHING),
+        flow(supply(1_000, 1_500), Supply::default()),
     ];
     let counts = Told::Counts {
         green: 500_000_000,
@@ -116,7 +114,10 @@ fn a_maximum_and_a_step_halfway(rt: HostRuntime) -> Result<(), Fail> {
         maximum: Some(500),
         volume: 1_000,
     };
-    let flows = [flow(below, NOTHING), flow(supply(1_000, 1_000), NOTHING)];
+    let flows = [
+        flow(below, Supply::default()),
+        flow(supply(1_000, 1_000), Supply::default()),
+    ];
     let one_step = [
         (green(0, 1, 1_000), GREEN),
         (green(0, 2, 1_000), GREEN),
@@ -135,7 +136,7 @@ fn a_maximum_and_a_step_halfway(rt: HostRuntime) -> Result<(), Fail> {
 #[test]
 fn green_overflow_of_rank_1_to_the_highest_yellow(rt: HostRuntime) -> Result<(), Fail> {
     let flows = [
-        flow(supply(0, 100), NOTHING),
+        flow(supply(0, 100), Supply::default()),
         flow(supply(100, 1_000), supply(0, 1_000)),
     ];
     let covered = [
@@ -152,14 +153,14 @@ fn green_overflow_of_rank_1_to_the_highest_yellow(rt: HostRuntime) -> Result<(),
 
 #[test]
 fn end_of_the_day(rt: HostRuntime) -> Result<(), Fail> {
-    let flows = [flow(supply(1, 1), NOTHING)];
+    let flows = [flow(supply(1, 1), Supply::default())];
     let list = [
-        (green(86_400_000_001, 1, 1), Err(11)),
-        (Call::Advance(86_400_000_001), Err(11)),
+        (green(86_400_000_001, 1, 1), Err(Cause::AfterDayEnd)),
+        (Call::Advance(86_400_000_001), Err(Cause::AfterDayEnd)),
         (green(86_400_000_000, 1, 1), GREEN),
         (Call::Advance(86_400_000_000), Ok(Told::Done)),
-        (Call::Advance(86_400_000_001), Err(11)),
-        (Call::Advance(86_399_999_999), Err(10)),
+        (Call::Advance(86_400_000_001), Err(Cause::AfterDayEnd)),
+        (Call::Advance(86_399_999_999), Err(Cause::BeforeLatest)),
     ];
     in_both_kinds(&rt, &flows, false, &list)
 }

@@ -1,4 +1,5 @@
 // Units and limits, written anew from the rules: a wrong one in the libraries would be seen.
+use crate::causes::Cause;
 
 pub const GRAINS_PER_TOKEN: u64 = 1_000_000;
 
@@ -9,6 +10,17 @@ pub fn grains(tokens: u128) -> u128 {
 
 // The last moment of a service day, in microseconds.
 pub const DAY_END: u64 = 24 * 60 * 60 * 1_000_000;
+
+// Whether a moment may come after the latest one.
+pub fn check_moment(latest: u64, moment: u64) -> Result<(), Cause> {
+    if moment < latest {
+        Err(Cause::BeforeLatest)
+    } else if moment > DAY_END {
+        Err(Cause::AfterDayEnd)
+    } else {
+        Ok(())
+    }
+}
 
 // In tokens a second.
 pub const HIGHEST_RATE: u64 = 100_000_000;

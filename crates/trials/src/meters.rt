@@ -2,7 +2,7 @@
 use crate::causes::Cause;
 use crate::chance::Chance;
 use crate::counted::assert_came;
-use crate::limits::{DAY_END, GRAINS_PER_TOKEN};
+use crate::limits::{DAY_END, GRAINS_PER_TOKEN, HIGHEST_RATE, LARGEST_BURST};
 use crate::windows::{FIGURE, Limits, Windows};
 use std::alloc::AllocGlobal;
 use std::process::Abort;
@@ -127,8 +127,8 @@ fn sequence(
 ) -> Result<(), Fail> {
     let mut chance = Chance::new(seed);
     let limits = Limits {
-        rate: any_limit(&mut chance, &RATES, 100_000_000),
-        burst: any_limit(&mut chance, &BURSTS, 1_000_000_000),
+        rate: any_limit(&mut chance, &RATES, HIGHEST_RATE),
+        burst: any_limit(&mut chance, &BURSTS, LARGEST_BURST),
     };
     let mut windows = Windows::new(rt.alloc(), limits)?;
     let mut forms = Forms::new(limits)?;
@@ -159,10 +159,24 @@ fn three_forms_agree_with_windows(rt: HostRuntime) -> Result<(), Fail> {
     Ok(())
 }
 
-// Whether a form takes a rate and a burst, or the number of its refusal.
-fn try_limits<M: Meter>(limits: Limits) -> Result<(), u8> {
-    let made = M::new(limits.rate, limits.burst);
-    made.map(|_| ()).map_err(Refusal::number)
+// Whether a form takes a rate and a burst.
+fn try_limits<M: Meter>(limits: Limits) -> Result<(), Refusal> {
+    M::new(limits.rate, limits.burst).map(|_| ())
+}
+
+// All three forms take the limits, or refuse them, as expected.
+fn assert_taken(rt: &impl Abort, limits: Limits, expected: Result<(), Cause>) {
+    let told = [
+        try_limits::<TokenBucket>(limits),
+        try_limits::<VirtualScheduling>(limits),
+        try_limits::<LeakyBucket>(limits),
+    ];
+    for one in told {
+        assert_eq!(rt;
+            one.map_err(Refusal::number),
+            expected.map_err(Cause::number)
+        );
+    }
 }
 
 #[test]
@@ -183,10 +197,7 @@ fn rates_and_bursts_at_the_edges(rt: HostRuntime) {
         for burst in edges {
             let limits = Limits { rate, burst };
             let made = Windows::new(rt.alloc(), limits);
-            let expected = made.map(|_| ()).map_err(Cause::number);
-            assert_eq!(rt; try_limits::<TokenBucket>(limits), expected);
-            assert_eq!(rt; try_limits::<VirtualScheduling>(limits), expected);
-            assert_eq!(rt; try_limits::<LeakyBucket>(limits), expected);
+            assert_taken(&rt, limits, made.map(|_| ()));
         }
     }
 }

@@ -149,6 +149,7 @@ fn random_report(rt: &(impl Abort + AllocGlobal), seed: u64) -> Result<(), Fail>
         moment = moment.saturating_add(chance.between(0, 90_000));
         let tokens = u32::try_from(size).unwrap_or(1);
         let passes = windows.put(Call::Charge { tokens, moment })? == Ok(Answer::Yes);
+        // The two words that a line may end with.
         let verdict = if passes { "yes" } else { "no" };
         sum = sum.saturating_add(size);
         if passes {

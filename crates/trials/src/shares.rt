@@ -5,7 +5,7 @@
 use crate::causes::Cause;
 use crate::contents::Contents;
 use crate::envelope_calls::{Call, Told};
-use crate::limits::{DAY_END, grains};
+use crate::limits::{check_moment, grains};
 use crate::places::{Place, after_green, after_yellow, green_of, yellow_of};
 use crate::profiles::Profile;
 use envelopes::colour::{Colour, Request};
@@ -111,16 +111,6 @@ impl Shares {
         Ok(())
     }
 
-    fn check_moment(&self, moment: u64) -> Result<(), Cause> {
-        if moment < self.latest {
-            return Err(Cause::BeforeLatest);
-        }
-        if moment > DAY_END {
-            return Err(Cause::AfterDayEnd);
-        }
-        Ok(())
-    }
-
     fn colour(&mut self, request: Request) -> Colour {
         let rank = usize::from(request.rank);
         let amount = grains(u128::from(request.tokens));
@@ -147,7 +137,7 @@ impl Shares {
             return Err(Cause::NoTokens);
         }
         self.check_rank(request.rank)?;
-        self.check_moment(request.moment)?;
+        check_moment(self.latest, request.moment)?;
         self.grow(request.moment);
         Ok(self.colour(request))
     }
@@ -172,7 +162,7 @@ impl Shares {
             }
             Call::Advance(moment) => {
                 self.check_volumes(handed)?;
-                self.check_moment(moment)?;
+                check_moment(self.latest, moment)?;
                 self.grow(moment);
                 Ok(Told::Done)
             }

@@ -2,7 +2,7 @@
 // counted from each packet that passed before, all that passed since then is at most the burst and what the rate
 // brings in the time since then. There is no level. Numbers are of 128 bits, and no sum comes near that.
 use crate::causes::Cause;
-use crate::limits::{DAY_END, HIGHEST_RATE, LARGEST_BURST, grains};
+use crate::limits::{HIGHEST_RATE, LARGEST_BURST, check_moment, grains};
 use std::alloc::{AllocError, Global};
 use tokens::calls::{Answer, Call};
 
@@ -71,14 +71,9 @@ impl Windows {
 
     fn check(&self, tokens: u32, moment: u64) -> Result<(), Cause> {
         if tokens == 0 {
-            Err(Cause::NoTokens)
-        } else if moment < self.latest {
-            Err(Cause::BeforeLatest)
-        } else if moment > DAY_END {
-            Err(Cause::AfterDayEnd)
-        } else {
-            Ok(())
+            return Err(Cause::NoTokens);
         }
+        check_moment(self.latest, moment)
     }
 
     // What is told, unless there is no memory for one packet more.
