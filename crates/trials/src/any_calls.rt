@@ -70,7 +70,7 @@ fn any_tokens<B: Bucket>(chance: &mut Chance, opened: &Opened<B>, rank: u8) -> u
 
 // A request at a moment about the latest one.
 pub fn any_request<B: Bucket>(chance: &mut Chance, opened: &Opened<B>, latest: u64) -> Request {
-    let rank = any_rank(chance, opened.highest);
+    let rank = any_rank(chance, opened.highest());
     Request {
         tokens: any_tokens(chance, opened, rank),
         moment: any_moment(chance, latest),

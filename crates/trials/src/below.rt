@@ -54,7 +54,7 @@ impl Below {
         let request = any_request(chance, opened, moment);
         Request {
             moment,
-            rank: chance.rank(self.rank.saturating_add(1), opened.highest),
+            rank: chance.rank(self.rank.saturating_add(1), opened.highest()),
             ..request
         }
     }

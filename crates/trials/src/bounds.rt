@@ -16,10 +16,17 @@ use tokens::bucket::Bucket;
 use tokens::counting::CountingBucket;
 use tokens::deficit::DeficitBucket;
 
-// A flow, or all of them, and the rate that bounds it.
+// The flow of a rank, or all of them.
+#[derive(Clone, Copy)]
+enum Flows {
+    One(u8),
+    All,
+}
+
+// What is bounded, and the rate that bounds it.
 #[derive(Clone, Copy)]
 struct Bound {
-    rank: Option<u8>,
+    flows: Flows,
     rate: u128,
 }
 
@@ -35,7 +42,7 @@ impl Bound {
             .fold(0, u128::saturating_add);
         let maximum = flows.get(index).and_then(|flow| flow.green.maximum);
         Bound {
-            rank: Some(rank),
+            flows: Flows::One(rank),
             rate: maximum.map_or(rates, |maximum| rates.min(u128::from(maximum))),
         }
     }
@@ -43,16 +50,16 @@ impl Bound {
     // All Green and Yellow tokens.
     fn of_all(flows: &[Flow]) -> Bound {
         Bound {
-            rank: None,
+            flows: Flows::All,
             rate: flows.iter().map(rates_of).fold(0, u128::saturating_add),
         }
     }
 
     // Whether the bound is about a request that was declared this colour.
     fn covers(&self, request: Request, colour: Colour) -> bool {
-        match self.rank {
-            None => colour != Colour::Red,
-            Some(rank) => request.rank == rank && colour == Colour::Green,
+        match self.flows {
+            Flows::All => colour != Colour::Red,
+            Flows::One(rank) => request.rank == rank && colour == Colour::Green,
         }
     }
 
@@ -65,9 +72,9 @@ impl Bound {
 
     fn at_first(&self, entry: &Entry) -> u128 {
         let mut counts = entry.contents.iter().map(|bucket| bucket.held);
-        match self.rank {
-            None => counts.fold(0, u128::saturating_add),
-            Some(rank) => counts.nth(index_of(rank)).unwrap_or(0),
+        match self.flows {
+            Flows::All => counts.fold(0, u128::saturating_add),
+            Flows::One(rank) => counts.nth(index_of(rank)).unwrap_or(0),
         }
     }
 
@@ -132,6 +139,7 @@ fn sequence<B: Bucket>(rt: &(impl Abort + AllocGlobal), seed: u64) -> Result<Clo
 
 #[test]
 fn tokens_stay_within_counts_and_rates(rt: HostRuntime) -> Result<(), Fail> {
+    // A loop: two sums run on, and a round may fail.
     let mut of_flows = 0u64;
     let mut of_all = 0u64;
     for seed in 0..600 {

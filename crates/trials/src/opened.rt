@@ -1,4 +1,4 @@
-// An open envelope, the highest rank of its flows, and its buckets, which go to every call together.
+// An open envelope, and its buckets, which go to every call together.
 use crate::envelope_calls::{Call, Told, put};
 use crate::limits::GRAINS_PER_TOKEN;
 use crate::profiles::{Profile, index_of};
@@ -11,7 +11,6 @@ use tokens::bucket::Bucket;
 
 #[derive(Drop)]
 pub struct Opened<B> {
-    pub highest: u8,
     pub envelope: Envelope,
     pub buckets: Vec<B>,
 }
@@ -20,7 +19,6 @@ impl<B: Bucket> Opened<B> {
     // The envelope of a profile, over full buckets.
     pub fn new(heap: Global, profile: &Profile) -> Result<Opened<B>, Fail> {
         Ok(Opened {
-            highest: profile.highest(),
             envelope: profile.open()?,
             buckets: profile.make_buckets(heap)?,
         })
@@ -46,6 +44,16 @@ impl<B: Bucket> Opened<B> {
         put(&mut self.envelope, self.buckets.as_mut_slice(), call)
     }
 
+    // Each flow has two buckets.
+    fn flows(&self) -> usize {
+        self.buckets.len() / 2
+    }
+
+    // The highest rank.
+    pub fn highest(&self) -> u8 {
+        u8::try_from(self.flows()).unwrap_or(u8::MAX)
+    }
+
     // The whole tokens that a bucket holds.
     fn tokens_at(&self, index: usize) -> u64 {
         self.buckets
@@ -56,7 +64,7 @@ impl<B: Bucket> Opened<B> {
     // The whole tokens that a rank's green and yellow bucket hold.
     pub fn held(&self, rank: u8) -> (u64, u64) {
         let index = index_of(rank);
-        let yellow = index.saturating_add(usize::from(self.highest));
+        let yellow = index.saturating_add(self.flows());
         (self.tokens_at(index), self.tokens_at(yellow))
     }
 }

@@ -14,7 +14,6 @@ use std::alloc::{AllocError, Global};
 #[derive(Drop)]
 pub struct Shares {
     places: Vec<Place>,
-    flows: usize,
     latest: u64,
 }
 
@@ -26,15 +25,16 @@ impl Shares {
             places.push(Place::new(flow.green, after_green(profile, flow, rank)))?;
             places.push(Place::new(flow.yellow, after_yellow(rank)))?;
         }
-        Ok(Shares {
-            places,
-            flows: profile.flows.len(),
-            latest: 0,
-        })
+        Ok(Shares { places, latest: 0 })
     }
 
     pub fn latest(&self) -> u64 {
         self.latest
+    }
+
+    // Each flow has two places.
+    fn flows(&self) -> usize {
+        self.places.len() / 2
     }
 
     // There are no more steps than places: nothing runs in a circle.
@@ -65,7 +65,7 @@ impl Shares {
 
     // The place that is handed as the bucket of an index: first all green ones, then all yellow ones.
     fn place_of_bucket(&self, index: usize) -> usize {
-        match index.checked_sub(self.flows) {
+        match index.checked_sub(self.flows()) {
             Some(above) => yellow_of(above.saturating_add(1)),
             None => green_of(index.saturating_add(1)),
         }
@@ -95,17 +95,18 @@ impl Shares {
 
     fn check_volumes(&self, handed: &[Contents]) -> Result<(), Cause> {
         self.check_number(handed)?;
-        for (index, bucket) in handed.iter().enumerate() {
-            let own = self.bucket(index).map(|own| own.volume);
-            if own != Some(bucket.volume) {
-                return Err(Cause::Buckets);
-            }
+        let own = handed.iter().enumerate().all(|(index, bucket)| {
+            self.bucket(index)
+                .is_some_and(|own| own.volume == bucket.volume)
+        });
+        if !own {
+            return Err(Cause::Buckets);
         }
         Ok(())
     }
 
     fn check_rank(&self, rank: u8) -> Result<(), Cause> {
-        if !(1..=self.flows).contains(&usize::from(rank)) {
+        if !(1..=self.flows()).contains(&usize::from(rank)) {
             return Err(Cause::Rank);
         }
         Ok(())

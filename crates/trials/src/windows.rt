@@ -34,6 +34,10 @@ pub struct Windows {
     passed: Vec<Packet>,
 }
 
+fn answer(passes: bool) -> Answer {
+    if passes { Answer::Yes } else { Answer::No }
+}
+
 impl Windows {
     pub fn new(heap: Global, limits: Limits) -> Result<Windows, Cause> {
         let Limits { rate, burst } = limits;
@@ -69,36 +73,37 @@ impl Windows {
         true
     }
 
-    fn check(&self, tokens: u32, moment: u64) -> Result<(), Cause> {
+    fn question(&self, tokens: u32, moment: u64) -> Result<bool, Cause> {
         if tokens == 0 {
             return Err(Cause::NoTokens);
         }
-        check_moment(self.latest, moment)
+        check_moment(self.latest, moment)?;
+        Ok(self.passes(tokens, moment))
+    }
+
+    fn charge(&mut self, tokens: u32, moment: u64) -> Result<Result<bool, Cause>, AllocError> {
+        let told = self.question(tokens, moment);
+        if let Ok(passes) = told {
+            self.latest = moment;
+            if passes {
+                self.passed.push(Packet { tokens, moment })?;
+            }
+        }
+        Ok(told)
+    }
+
+    fn wait(&mut self, moment: u64) -> Result<(), Cause> {
+        check_moment(self.latest, moment)?;
+        self.latest = moment;
+        Ok(())
     }
 
     // What is told, unless there is no memory for one packet more.
     pub fn put(&mut self, call: Call) -> Result<Result<Answer, Cause>, AllocError> {
-        let (tokens, moment) = match call {
-            Call::Question { tokens, moment } | Call::Charge { tokens, moment } => (tokens, moment),
-            Call::Wait { moment } => (1, moment),
-        };
-        if let Err(cause) = self.check(tokens, moment) {
-            return Ok(Err(cause));
-        }
-        let passes = self.passes(tokens, moment);
-        match call {
-            Call::Question { .. } => {}
-            Call::Charge { .. } => {
-                self.latest = moment;
-                if passes {
-                    self.passed.push(Packet { tokens, moment })?;
-                }
-            }
-            Call::Wait { .. } => {
-                self.latest = moment;
-                return Ok(Ok(Answer::Moved));
-            }
-        }
-        Ok(Ok(if passes { Answer::Yes } else { Answer::No }))
+        Ok(match call {
+            Call::Question { tokens, moment } => self.question(tokens, moment).map(answer),
+            Call::Charge { tokens, moment } => self.charge(tokens, moment)?.map(answer),
+            Call::Wait { moment } => self.wait(moment).map(|()| Answer::Moved),
+        })
     }
 }
