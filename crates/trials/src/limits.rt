@@ -11,7 +11,7 @@ pub fn grains(tokens: u128) -> u128 {
 // The last moment of a service day, in microseconds.
 pub const DAY_END: u64 = 24 * 60 * 60 * 1_000_000;
 
-// Whether a moment may come after the latest one.
+// A moment is no earlier than the latest one, and in the service day.
 pub fn check_moment(latest: u64, moment: u64) -> Result<(), Cause> {
     if moment < latest {
         Err(Cause::BeforeLatest)

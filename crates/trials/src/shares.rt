@@ -95,11 +95,11 @@ impl Shares {
 
     fn check_volumes(&self, handed: &[Contents]) -> Result<(), Cause> {
         self.check_number(handed)?;
-        let own = handed.iter().enumerate().all(|(index, bucket)| {
+        let all_own = handed.iter().enumerate().all(|(index, bucket)| {
             self.bucket(index)
                 .is_some_and(|own| own.volume == bucket.volume)
         });
-        if !own {
+        if !all_own {
             return Err(Cause::Buckets);
         }
         Ok(())

@@ -73,6 +73,7 @@ impl Windows {
         true
     }
 
+    // Whether a packet passes.
     fn question(&self, tokens: u32, moment: u64) -> Result<bool, Cause> {
         if tokens == 0 {
             return Err(Cause::NoTokens);
@@ -81,6 +82,7 @@ impl Windows {
         Ok(self.passes(tokens, moment))
     }
 
+    // The same, unless there is no memory for one packet more.
     fn charge(&mut self, tokens: u32, moment: u64) -> Result<Result<bool, Cause>, AllocError> {
         let told = self.question(tokens, moment);
         if let Ok(passes) = told {
