@@ -45,16 +45,16 @@ module _ (time top : ℕ) (ls : List Lane) (n i j handed : ℕ) (settled : List 
   so_far : Flowing time top ls n (j + 1) handed settled
   so_far = subst (λ (k : ℕ). Flowing time top ls n k handed settled) next flowing
 
-  pub flowing_more : (s : Settled) → s.added ≡ added time handed l → s.overflow ≡ overflow time handed l → s.handed ≡ cond l.withheld 0 (overflow time handed l) → j < n → (k : ℕ) → k ≡ j → Flowing time top ls n k s.handed (set settled j s)
-  flowing_more s adds_more over_more hands_down below k at_j =
+  pub flowing_more : (s : Settled) (h : ℕ) → s.added ≡ added time handed l → s.overflow ≡ overflow time handed l → h ≡ cond l.withheld 0 (overflow time handed l) → j < n → (k : ℕ) → k ≡ j → Flowing time top ls n k h (set settled j s)
+  flowing_more s h adds_more over_more hands_down below k at_j =
       let from = so_far.handed_is in
-      let more : Flowing time top ls n j s.handed (set settled j s) = record {
+      let more : Flowing time top ls n j h (set settled j s) = record {
         handed_is = hands_down ∙ ap (λ x. cond l.withheld 0 (overflow time x l)) from ∙ sym (ap (handed_down time top) here);
         added_are = one_more_set (λ x. x.added) settled _ n j s below so_far.room so_far.added_are ∙ ap (λ x. x ∷ additions time top (drop (j + 1) ls)) (adds_more ∙ ap (λ x. added time x l) from) ∙ sym (ap (additions time top) here);
         over_are = one_more_set (λ x. x.overflow) settled _ n j s below so_far.room so_far.over_are ∙ ap (λ x. x ∷ overflows time top (drop (j + 1) ls)) (over_more ∙ ap (λ x. overflow time x l) from) ∙ sym (ap (overflows time top) here);
         room = omega (arith, so_far.room, length-set settled j s);
       } in
-      subst (λ (m : ℕ). Flowing time top ls n m s.handed (set settled j s)) (sym at_j) more
+      subst (λ (m : ℕ). Flowing time top ls n m h (set settled j s)) (sym at_j) more
 
   income_above : (i : ℕ) (ms : List Lane) → income time top (drop i ms) ≤ income time top ms
   income_above zero ms = omega arith

@@ -65,7 +65,7 @@ offered_at (v ∷ vs) (c ∷ cs) (a ∷ as') (suc i) in_vs in_cs in_as = offered
 
 -- a place where nothing was settled
 abbrev pub nothing : Settled
-nothing = record { added = 0; overflow = 0; handed = 0 }
+nothing = record { added = 0; overflow = 0 }
 
 pub offered_here : (vs cs : List ℕ) (settled : List Settled) (i v c n : ℕ) → v ≡ get_or vs i 0 → c ≡ get_or cs i 0 → n ≡ c + added v c (get_or settled i nothing).added → i < length vs → i < length cs → i < length settled → n ≡ get_or (offered vs cs (additions_of settled)) i 0
 offered_here vs cs settled i v c n volume count told in_vs in_cs in_settled =

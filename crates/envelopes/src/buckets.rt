@@ -1,7 +1,7 @@
 // An envelope's buckets, as the caller hands them in: whether they fit its draft, and how they are written.
 // Here and in what calls these, each function says of its own buckets that the volumes stay, and splits them itself into
 // the green and the yellow half: a name for the clause would be no shorter, and a function that hands out both halves
-// would have to say how they are written back.
+// would have to say how they are written back. So each that needs two buckets for each flow asks for them.
 ghost use Rattle.std.specs.Prelude.{◌≡◌, ◌*◌, ◌≤◌, map, length};
 ghost use Rattle.envelopes.specs.Drafts.{profile};
 ghost use Rattle.envelopes.specs.Promises.{parted, rank_counts, same as same_numbers, volumes as volumes_of};
@@ -46,6 +46,7 @@ pub(crate) fn make_each<B: Bucket>(column: Column, draft: &Draft, buckets: &mut 
 pub(crate) fn fit<B: Bucket>(draft: &Draft, buckets: &[B]) -> bool
     ensures { result ≡ same_numbers (volumes_of (profile draft.now).flows) (map B.Bucket.volume buckets.now) }
 {
+    // a chain for each column: a function that hands one out would have to name its type
     let greens = draft
         .rows()
         .iter()

@@ -1,4 +1,5 @@
-// How a request is coloured, and what it spends.
+// How a request is coloured, and what it spends. As in `buckets`, each function says of its own buckets that the volumes
+// stay, and a bucket is copied out, told and written back, as was asked for.
 ghost use Rattle.std.specs.Prelude.{◌≡◌, ◌*◌, ◌<◌, ◌≤◌, map, length, if◌then◌else◌, slice_index};
 ghost use Rattle.envelopes.specs.Colouring.{colour as colour_of, is_yellow, lowered, spent, yellow_or_red as yellow_or_red_lem};
 ghost use Rattle.envelopes.specs.Drafts.{profile};
@@ -10,7 +11,7 @@ use crate::draft::Draft;
 use tokens::bucket::Bucket;
 use tokens::units::grains;
 
-// The whole amount is spent from the bucket at a place, or nothing. The bucket is copied out, told and written back.
+// The whole amount is spent from the bucket at a place, or nothing.
 fn spend_at<B: Bucket>(buckets: &mut [B], place: usize, amount: u64) -> bool
     requires { place < length buckets.old }
     ensures value { result ≡ covers (slice_index (map B.Bucket.count buckets.old) place) amount }

@@ -1,5 +1,5 @@
 // One bucket of a column in an update: what comes to it, what it adds, and what it passes on.
-ghost use Rattle.std.specs.Prelude.{◌≡◌, ◌*◌, ◌≤◌, if◌then◌else◌};
+ghost use Rattle.std.specs.Prelude.{◌≡◌, ◌*◌, ◌≤◌};
 ghost use Rattle.envelopes.specs.Growth.{added as added_by, coming as coming_to, limited as limited_by, overflow as overflow_of};
 ghost use Rattle.envelopes.specs.Profiles.{maximum_or_0};
 ghost use Rattle.envelopes.specs.Rows.{largest_flow_volume};
@@ -10,7 +10,7 @@ use tokens::time::Time;
 use tokens::units::GRAINS_PER_TOKEN;
 
 /// What supplies the bucket, what comes to it besides its rate and the overflow of the rank above, whether its own
-/// overflow is withheld from the rank below, and what it holds.
+/// overflow is withheld from the rank below, and what it holds. (`withheld` says nothing of the fields beside it.)
 #[derive(Clone, Copy)]
 pub(crate) struct Lane {
     pub(crate) supply: Supply,
@@ -19,12 +19,11 @@ pub(crate) struct Lane {
     pub(crate) count: u64,
 }
 
-// What a bucket adds, what it does not, and what of that it hands down: all, or nothing where it is withheld.
+// What a bucket adds, and what it does not.
 #[derive(Clone, Copy, Default)]
 pub(crate) struct Settled {
     pub(crate) added: u64,
     pub(crate) overflow: u64,
-    pub(crate) handed: u64,
 }
 
 // What a maximum rate, if there is one, lets through in a time.
@@ -46,16 +45,13 @@ impl Lane {
         requires income { coming_to time.micros handed self ≤ highest_rate * day_end }
         ensures added { result.added ≡ added_by time.micros handed self }
         ensures overflow { result.overflow ≡ overflow_of time.micros handed self }
-        ensures handed { result.handed ≡ (if self.withheld then 0 else overflow_of time.micros handed self) }
     {
         let coming = self.supply.rate * time.micros + (self.besides + handed);
         let room = (GRAINS_PER_TOKEN * self.supply.volume).saturating_sub(self.count);
         let added = limited(self.supply.maximum, time, coming).min(room);
-        let overflow = coming - added;
         Settled {
             added,
-            overflow,
-            handed: if self.withheld { 0 } else { overflow },
+            overflow: coming - added,
         }
     }
 }

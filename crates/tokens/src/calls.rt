@@ -29,7 +29,7 @@ impl From<bool> for Answer {
     }
 }
 
-/// Puts one call to a meter.
+/// Puts one call to a meter. Like the meter's own calls it says for itself that a refusal changes nothing.
 pub fn put<M: Meter>(meter: &mut M, call: Call) -> Result<Answer, Refusal>
     ensures kept { Kept (M.Meter.meaning meter.old) call (told result) (M.Meter.meaning meter.new) }
     ensures refused { is_err result ≡ true → meter.new ≡ meter.old }

@@ -49,6 +49,7 @@ pub enum Misuse {
 }
 
 impl Misuse {
+    // Beside `Display`, since this cannot fail.
     /// What the user is told.
     pub fn text(self) -> &'static str
         ensures { result.now ≡ misuse_text self }

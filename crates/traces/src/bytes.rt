@@ -14,7 +14,8 @@ pub(crate) fn cut(text: &[u8], separator: u8) -> (&[u8], &[u8])
     }
 }
 
-// The lines of a text that are left, each without its newline.
+// The lines of a text that are left, each without its newline. (Of a text that a newline ends, `split` would make one
+// empty line more.)
 #[derive(Drop)]
 pub(crate) struct Lines<'a>(pub(crate) &'a [u8]);
 

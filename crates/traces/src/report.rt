@@ -120,6 +120,7 @@ fn charge_lines<M: Meter>(meter: M, trace: &[u8], out: &mut String) -> Result<En
         meter,
         tally: Tally::default(),
     };
+    // a loop: the run changes from line to line, and may end at any
     for line in Lines(trace) {
         if let Some(ending) = run.charge_line(line, out)? {
             return Ok(ending);

@@ -34,6 +34,7 @@ pub struct Windows {
     passed: Vec<Packet>,
 }
 
+// By hand: the library's conversion is among what is tried.
 fn answer(passes: bool) -> Answer {
     if passes { Answer::Yes } else { Answer::No }
 }

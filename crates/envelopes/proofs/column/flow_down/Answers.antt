@@ -1,4 +1,4 @@
-use Rattle.std.proofs.Common.{◌≡◌, length, sym, refl, ap, ◌∙◌, arith}
+use Rattle.std.proofs.Common.{◌≡◌, length, sym, refl, ap, ◌∙◌, arith, rules}
 use Rattle.envelopes.specs.Drafts.{rows_of}
 use Rattle.envelopes.proofs.Descending.{all_left, firsts, turn}
 use Rattle.envelopes.proofs.Drafted.{as_many_rows, few_rows}
@@ -27,4 +27,4 @@ loop-place-preserved g c =
     let down = c.loop-place.invariant.0 in
     let here = turn (rows_of d) c.args.buckets.now _ _ _ down _ _ _ _ c.in-Some.is c.next.ensures.steps in
     let lane = lane_read g.B.Bucket.count c.args.column (rows_of d) c.args.greens _ _ _ _ _ _ _ _ _ _ down here (omega (arith, few_rows d (rows_of d) refl)) c.flow.ensures c.count.ensures c.lane-lane.ensures in
-    (here.on, flowing_more _ _ _ _ _ _ _ _ here.next c.loop-place.invariant.1 _ lane c.settle-here.result c.settle-here.ensures.added c.settle-here.ensures.overflow c.settle-here.ensures.handed (omega (arith, here.next, down.in_xs)) _ here.left_now)
+    (here.on, flowing_more _ _ _ _ _ _ _ _ here.next c.loop-place.invariant.1 _ lane c.settle-here.result _ c.settle-here.ensures.added c.settle-here.ensures.overflow (search rules) (omega (arith, here.next, down.in_xs)) _ here.left_now)
