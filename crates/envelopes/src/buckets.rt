@@ -1,7 +1,7 @@
 // An envelope's buckets, as the caller hands them in: whether they fit its draft, and how they are written.
-// Here and in what calls these, each function says of its own buckets that the volumes stay, and splits them itself into
-// the green and the yellow half: a name for the clause would be no shorter, and a function that hands out both halves
-// would have to say how they are written back. So each that needs two buckets for each flow asks for them.
+// Each function here says of its own buckets that the volumes stay, asks for two of them for each flow, and splits them
+// into the green and the yellow half: a name for a clause would be no shorter, and a function that hands out both halves
+// would have to say how they are written back.
 ghost use Rattle.std.specs.Prelude.{◌≡◌, ◌*◌, ◌≤◌, map, length};
 ghost use Rattle.envelopes.specs.Drafts.{profile};
 ghost use Rattle.envelopes.specs.Promises.{parted, rank_counts, same as same_numbers, volumes as volumes_of};
@@ -14,7 +14,8 @@ use crate::lane::Settled;
 use tokens::bucket::Bucket;
 use tokens::units::GRAINS_PER_TOKEN;
 
-// Offers each bucket what it adds. A bucket is a plain value, as was asked for: copied out, told and written back.
+// Offers each bucket what it adds. A bucket is a plain value: by a rule of this layer it is copied out, told and written
+// back.
 pub(crate) fn offer_each<B: Bucket>(buckets: &mut [B], settled: [Settled; MOST_FLOWS])
     requires { length buckets.old ≤ most_flows }
     ensures volumes { map B.Bucket.volume buckets.new ≡ map B.Bucket.volume buckets.old }

@@ -1,5 +1,4 @@
-// How a request is coloured, and what it spends. As in `buckets`, each function says of its own buckets that the volumes
-// stay, and a bucket is copied out, told and written back, as was asked for.
+// How a request is coloured, and what it spends. Clauses, halves and buckets are treated as in `buckets`.
 ghost use Rattle.std.specs.Prelude.{◌≡◌, ◌*◌, ◌<◌, ◌≤◌, map, length, if◌then◌else◌, slice_index};
 ghost use Rattle.envelopes.specs.Colouring.{colour as colour_of, is_yellow, lowered, spent, yellow_or_red as yellow_or_red_lem};
 ghost use Rattle.envelopes.specs.Drafts.{profile};

@@ -52,8 +52,8 @@ impl Column {
 }
 
 // What each bucket of a column settles, from the highest rank down and by the counts as they are; the yellow column is
-// fed by what the green one settled. What comes to the highest rank from outside is `top`. An array of eight by value
-// carries all that, as was asked for, before any bucket is written; places past the last rank are spare.
+// fed by what the green one settled. What comes to the highest rank from outside is `top`. By a rule of this layer an
+// array of eight by value carries all that before any bucket is written; places past the last rank are spare.
 pub(crate) fn flow_down<B: Bucket>(
     column: Column,
     draft: &Draft,

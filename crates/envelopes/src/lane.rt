@@ -10,7 +10,8 @@ use tokens::time::Time;
 use tokens::units::GRAINS_PER_TOKEN;
 
 /// What supplies the bucket, what comes to it besides its rate and the overflow of the rank above, whether its own
-/// overflow is withheld from the rank below, and what it holds. (`withheld` says nothing of the fields beside it.)
+/// overflow is withheld from the rank below, and what it holds.
+// `withheld` is a fact of its own: no field beside it depends on it.
 #[derive(Clone, Copy)]
 pub(crate) struct Lane {
     pub(crate) supply: Supply,

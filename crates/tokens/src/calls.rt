@@ -29,7 +29,8 @@ impl From<bool> for Answer {
     }
 }
 
-/// Puts one call to a meter. Like the meter's own calls it says for itself that a refusal changes nothing.
+// Its contract, too, says that a refusal changes nothing.
+/// Puts one call to a meter.
 pub fn put<M: Meter>(meter: &mut M, call: Call) -> Result<Answer, Refusal>
     ensures kept { Kept (M.Meter.meaning meter.old) call (told result) (M.Meter.meaning meter.new) }
     ensures refused { is_err result ≡ true → meter.new ≡ meter.old }

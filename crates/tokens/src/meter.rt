@@ -6,8 +6,8 @@ ghost use Rattle.tokens.specs.Refusals.{told, told_by};
 use crate::refusal::Refusal;
 
 // A packet's tokens and its moment stay two numbers: a struct of both would be made for each call, and taken apart again
-// in each clause. Each call says for itself that a refusal changes nothing. The forms' steps are alike, but each form
-// takes them upon another number, so they are written in each.
+// in each clause. Each contract says that a refusal changes nothing, so that a caller has one to read. The forms' steps
+// are alike, but each form takes them upon another number, so they are written in each.
 pub trait Meter: Copy {
     ghost meaning: { Self → Metered };
 

@@ -1,4 +1,4 @@
-// What a draft tells, and what it takes. Each call says for itself that a refusal changes nothing.
+// What a draft tells, and what it takes. Each contract says that a refusal changes nothing, so that a caller has one to read.
 ghost use Rattle.std.specs.Prelude.{◌≡◌, true, false, [], ◌∷◌, is_err};
 ghost use Rattle.envelopes.specs.Drafts.{add_causes, cf0_causes, profile, rows_of, with_cf0, with_flow};
 ghost use Rattle.envelopes.specs.Profiles.{all_rates, coupled};

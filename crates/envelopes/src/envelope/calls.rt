@@ -1,5 +1,5 @@
 // The four calls upon an envelope and its buckets, the same for every kind of bucket. Each checks first, and changes
-// nothing where it refuses; each says so for itself, and that the draft stays, as its caller has only that call to read.
+// nothing where it refuses. Each contract says that, and that the draft stays, so that a caller has one to read.
 ghost use Rattle.std.specs.Prelude.{◌≡◌, true, is_err};
 ghost use Rattle.envelopes.specs.Envelopes.{Promised};
 ghost use Rattle.envelopes.specs.Promises.{advance as advancing, fill as filling, judge as judging, read as reading};

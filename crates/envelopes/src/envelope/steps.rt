@@ -1,4 +1,4 @@
-// The step that an advance and a request have in common. Like each of them it says for itself what stays.
+// The step that an advance and a request have in common, with what stays: their own contracts say it from this one.
 ghost use Rattle.std.specs.Prelude.{◌≡◌, ◌-◌, map, length};
 ghost use Rattle.envelopes.specs.Drafts.{profile};
 ghost use Rattle.envelopes.specs.Growth.{grown};
