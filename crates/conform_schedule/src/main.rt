@@ -3,7 +3,8 @@
 #![tactic(auto)]
 
 use std::process::ExitCode;
+use traces::program::{exit_code, run};
 
 fn main(rt: HostRuntime) -> ExitCode {
-    traces::program::run(&rt)
+    exit_code(run(&rt))
 }

@@ -1,44 +1,34 @@
--- Two lists of one length gone through side by side, by place, from the last place down. Assumes nothing.
-use Rattle.std.proofs.Common.{◌≡◌, ℕ, ◌+◌, ◌≤◌, List, [], ◌∷◌, ◌++◌, length, get_or, take, min, Bor, Iter, Some, Option, sym, refl, ap, ◌∙◌, subst, arith, length-append, length-take-le, get_or-take, take_all, take_at}
+-- A list gone through by place, from the last place down. Assumes nothing.
+use Rattle.std.proofs.Common.{◌≡◌, ℕ, ◌+◌, ◌≤◌, List, [], ◌∷◌, ◌++◌, length, get_or, take, Bor, Iter, Some, Option, sym, refl, ap, ◌∙◌, subst, arith, length-append, length-take-le, get_or-take, take_all, take_at}
 use Rattle.std.proofs.lemmas.List.{get_or_at, take-take}
-use Rattle.std.specs.Iterator.Adapters.{enumerate_count, enumerate_source, enumerate_steps_back, rev_source, rev_steps, zip_first, zip_second, zip_steps_back}
+use Rattle.std.specs.Iterator.Adapters.{enumerate_count, enumerate_source, enumerate_steps_back, rev_source, rev_steps}
 use Rattle.std.specs.Slice.Iter.{iter_rest, iter_steps_back}
 use Rattle.std.specs.declared.iter.Enumerate.{Enumerate}
 use Rattle.std.specs.declared.iter.Rev.{Rev}
-use Rattle.std.specs.declared.iter.Zip.{Zip}
 
-abbrev left : {A : Type 0} → Iter A → ℕ
-left s = length (iter_rest s)
+abbrev pub Places : Type 0 → Type 0
+Places A = Rev (Enumerate (Iter A))
 
-abbrev pub Both : Type 0 → Type 0 → Type 0
-Both A B = Rev (Enumerate (Zip (Iter A) (Iter B)))
+-- what is left to go through
+abbrev pub rest : {A : Type 0} → Places A → List A
+rest s = iter_rest (enumerate_source (rev_source s))
 
-abbrev pub firsts : {A B : Type 0} → Both A B → List A
-firsts s = iter_rest (zip_first (enumerate_source (rev_source s)))
-
-abbrev pub seconds : {A B : Type 0} → Both A B → List B
-seconds s = iter_rest (zip_second (enumerate_source (rev_source s)))
-
-abbrev pub Steps : {A B : Type 0} → Both A B → Option (ℕ × (Bor A × Bor B)) → Both A B → Type 0
-Steps = rev_steps (enumerate_steps_back (zip_steps_back iter_steps_back iter_steps_back left left) (λ z. min (left (zip_first z)) (left (zip_second z))))
+abbrev pub Steps : {A : Type 0} → Places A → Option (ℕ × Bor A) → Places A → Type 0
+Steps = rev_steps (enumerate_steps_back iter_steps_back (λ s. length (iter_rest s)))
 
 -- so many places are left
-pub record Descending {A B : Type 0} (xs : List A) (ys : List B) (n : ℕ) (s : Both A B) : Type 0 where
+pub record Descending {A : Type 0} (xs : List A) (n : ℕ) (s : Places A) : Type 0 where
   pub from_0 : enumerate_count (rev_source s) ≡ 0
-  pub firsts_left : firsts s ≡ take n xs
-  pub seconds_left : seconds s ≡ take n ys
-  pub in_xs : n ≤ length xs
-  pub in_ys : n ≤ length ys
+  pub left : rest s ≡ take n xs
+  pub within : n ≤ length xs
 
 -- all of them
-pub all_left : {A B : Type 0} (xs : List A) (ys : List B) (s : Both A B) → enumerate_count (rev_source s) ≡ 0 → firsts s ≡ xs → seconds s ≡ ys → length ys ≡ length xs → Descending xs ys (length (firsts s)) s
-all_left xs ys s from_0 firsts_are seconds_are even =
+pub all_left : {A : Type 0} (xs : List A) (s : Places A) → enumerate_count (rev_source s) ≡ 0 → rest s ≡ xs → Descending xs (length (rest s)) s
+all_left xs s from_0 all =
     record {
       from_0 = from_0;
-      firsts_left = sym (take_all (length (firsts s)) (firsts s) (omega arith)) ∙ ap (take (length (firsts s))) firsts_are;
-      seconds_left = sym (take_all (length (firsts s)) (seconds s) (omega (arith, ap length firsts_are, ap length seconds_are))) ∙ ap (take (length (firsts s))) seconds_are;
-      in_xs = omega (arith, ap length firsts_are);
-      in_ys = omega (arith, ap length firsts_are);
+      left = sym (take_all (length (rest s)) (rest s) (omega arith)) ∙ ap (take (length (rest s))) all;
+      within = omega (arith, ap length all);
     }
 
 -- the last of these
@@ -54,38 +44,28 @@ module _ {A : Type 0} (xs : List A) (n i : ℕ) (ys : List A) (x : A) (within : 
   last =
       sym (get_or_at ys x [] x i (sym here)) ∙ ap (λ zs. get_or zs i x) (sym split) ∙ get_or-take n xs i x (omega (arith, as_many))
 
-pub record Turn {A B : Type 0} (xs : List A) (ys : List B) (n i : ℕ) (x : A) (y : B) (t : Both A B) : Type 0 where
+pub record Turn {A : Type 0} (xs : List A) (n i : ℕ) (x : A) (t : Places A) : Type 0 where
   pub next : n ≡ i + 1
-  pub first : x ≡ get_or xs i x
-  pub second : y ≡ get_or ys i y
-  pub on : Descending xs ys (length (firsts t)) t
-  pub left_now : length (firsts t) ≡ i
+  pub item : x ≡ get_or xs i x
+  pub on : Descending xs (length (rest t)) t
+  pub left_now : length (rest t) ≡ i
 
-module _ {A B : Type 0} (xs : List A) (ys : List B) (n : ℕ) (s t : Both A B) (down : Descending xs ys n s) where
-  one_turn : (i : ℕ) (x : Bor A) (y : Bor B) → Steps s (Some (i, (x, y))) t → Turn xs ys n i x.now y.now t
-  one_turn i x y steps =
-      let long = ap length down.firsts_left ∙ length-take-le n xs down.in_xs in
-      let wide = ap length down.seconds_left ∙ length-take-le n ys down.in_ys in
-      let first = sym down.firsts_left ∙ steps.1.0.0.3 (omega arith) in
-      let second = sym down.seconds_left ∙ steps.1.0.1.3 (omega arith) in
-      let one : n ≡ length (firsts t) + 1 = omega (arith, as_many xs n _ _ _ down.in_xs first refl) in
-      let other : n ≡ length (seconds t) + 1 = omega (arith, as_many ys n _ _ _ down.in_ys second refl) in
-      let x_here : i ≡ length (firsts t) = omega (arith, steps.1.1, down.from_0) in
-      let y_here : i ≡ length (seconds t) = omega (arith, steps.1.1, down.from_0) in
+module _ {A : Type 0} (xs : List A) (n : ℕ) (s t : Places A) (down : Descending xs n s) where
+  one_turn : (i : ℕ) (x : Bor A) → Steps s (Some (i, x)) t → Turn xs n i x.now t
+  one_turn i x steps =
+      let split = sym down.left ∙ steps.1.0 in
+      let here : i ≡ length (rest t) = omega (arith, steps.1.1, down.from_0) in
       record {
-        next = omega arith;
-        first = last xs n i _ _ down.in_xs first x_here;
-        second = last ys n i _ _ down.in_ys second y_here;
+        next = as_many xs n i _ _ down.within split here;
+        item = last xs n i _ _ down.within split here;
         on =
             record {
               from_0 = steps.0 ∙ down.from_0;
-              firsts_left = before xs n _ _ _ down.in_xs first refl;
-              seconds_left = before ys n _ _ _ down.in_ys second (omega arith);
-              in_xs = omega (arith, down.in_xs);
-              in_ys = omega (arith, down.in_ys);
+              left = before xs n _ _ _ down.within split refl;
+              within = omega (arith, as_many xs n _ _ _ down.within split refl, down.within);
             };
-        left_now = sym x_here;
+        left_now = sym here;
       }
 
-  pub turn : (r : Option (ℕ × (Bor A × Bor B))) (i : ℕ) (x : Bor A) (y : Bor B) → r ≡ Some (i, (x, y)) → Steps s r t → Turn xs ys n i x.now y.now t
-  turn r i x y is steps = one_turn i x y (subst (λ o. Steps s o t) is steps)
+  pub turn : (r : Option (ℕ × Bor A)) (i : ℕ) (x : Bor A) → r ≡ Some (i, x) → Steps s r t → Turn xs n i x.now t
+  turn r i x is steps = one_turn i x (subst (λ o. Steps s o t) is steps)

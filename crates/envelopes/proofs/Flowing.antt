@@ -13,7 +13,7 @@ use Rattle.envelopes.specs.declared.lane.Lane.{Lane}
 use Rattle.envelopes.specs.declared.lane.Settled.{Settled}
 use Rattle.envelopes.specs.declared.row.Row.{Row}
 use Rattle.envelopes.proofs.Columns.{never_more_than_income}
-use Rattle.envelopes.proofs.Descending.{Both, Descending, Turn}
+use Rattle.envelopes.proofs.Descending.{Descending, Places, Turn}
 use Rattle.envelopes.proofs.Written.{nothing, told_here}
 
 -- the ranks from place `i` up are settled
@@ -91,13 +91,13 @@ lanes_are_few column (x ∷ rows) (o ∷ os) [] = omega arith
 lanes_are_few column (x ∷ rows) (o ∷ os) (c ∷ cs) = omega (arith, lanes_are_few column rows os cs)
 
 -- as the code reads it: a row, its flow, what the green column settled, and a bucket that is told by its count
-pub lane_read : {B : Type 0} (count : B → ℕ) (column : Column) (rows : List Row) (greens : List Settled) (bs : List B) (n j : ℕ) (s t : Both Row B) (r : Row) (f : Flow) (b : B) (c : ℕ) (l : Lane) → Descending rows bs n s → Turn rows bs n j r b t → length rows ≤ length greens → f ≡ r.flow → c ≡ count b → l ≡ lane column f (get_or greens j nothing).overflow c → drop j (lanes column (flows rows) (overflows_of greens) (map count bs)) ≡ l ∷ drop (j + 1) (lanes column (flows rows) (overflows_of greens) (map count bs))
-lane_read count column rows greens bs n j s t r f b c l down turn room flow counted made =
-    let in_rows : j < length rows = omega (arith, turn.next, down.in_xs) in
-    let in_bs : j < length bs = omega (arith, turn.next, down.in_ys) in
+pub lane_read : {B : Type 0} (count : B → ℕ) (column : Column) (rows : List Row) (greens : List Settled) (bs : List B) (n j : ℕ) (s t : Places Row) (r : Row) (f : Flow) (b : B) (c : ℕ) (l : Lane) → Descending rows n s → Turn rows n j r t → length rows ≤ length greens → length bs ≡ length rows → b ≡ get_or bs j b → f ≡ r.flow → c ≡ count b → l ≡ lane column f (get_or greens j nothing).overflow c → drop j (lanes column (flows rows) (overflows_of greens) (map count bs)) ≡ l ∷ drop (j + 1) (lanes column (flows rows) (overflows_of greens) (map count bs))
+lane_read count column rows greens bs n j s t r f b c l down turn room even bucket flow counted made =
+    let in_rows : j < length rows = omega (arith, turn.next, down.within) in
+    let in_bs : j < length bs = omega (arith, even) in
     let over = sym (get_or-map (λ (s : Settled). s.overflow) greens j nothing 0 (omega arith)) in
     let in_over : j < length (overflows_of greens) = omega (arith, length-map greens (λ (s : Settled). s.overflow)) in
-    let held : c ≡ get_or (map count bs) j 0 = told_here count bs j b c counted turn.second in_bs in
+    let held : c ≡ get_or (map count bs) j 0 = told_here count bs j b c counted bucket in_bs in
     let in_counts : j < length (map count bs) = omega (arith, length-map bs count) in
-    let whole = lane_at column rows (overflows_of greens) (map count bs) j r _ c turn.first over held in_rows in_over in_counts in
+    let whole = lane_at column rows (overflows_of greens) (map count bs) j r _ c turn.item over held in_rows in_over in_counts in
     whole ∙ ap (λ x. x ∷ drop (j + 1) (lanes column (flows rows) (overflows_of greens) (map count bs))) (ap (λ x. lane column x (get_or greens j nothing).overflow c) (sym flow) ∙ sym made)

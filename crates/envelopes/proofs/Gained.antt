@@ -71,11 +71,10 @@ module _ (p : Profile) (time : ℕ) (k : Counts) (fits : Fits p k) (rates : all_
         yellows_added adds came =
             came ∙ ap (λ t. additions time t (lanes Yellow p.flows (overflows_of greens) k.yellows)) top_is ∙ ap (additions time (to_highest_yellow p time k)) below
 
--- the counts of both columns, read from the two halves of buckets that fit, fit the profile
-pub fits_in_halves : {B : Type 0} (volume count : B → ℕ) (p : Profile) (m : ℕ) (bs first second : List B) → m ≡ length p.flows → map volume bs ≡ volumes p.flows → length first ≡ m → length second + m ≡ length bs → Fits p (record { greens = map count first; yellows = map count second })
-fits_in_halves volume count p m bs first second many fit greens yellows =
-    let even = fitting_are_even volume bs p.flows fit in
-    record { greens = omega (arith, length-map first count); yellows = omega (arith, length-map second count) }
+-- the counts of both columns, read from a bucket for each flow
+pub counts_fit : {B : Type 0} (count : B → ℕ) (p : Profile) (first second : List B) → length first ≡ length p.flows → length second ≡ length p.flows → Fits p (record { greens = map count first; yellows = map count second })
+counts_fit count p first second greens yellows =
+    record { greens = length-map first count ∙ greens; yellows = length-map second count ∙ yellows }
 
 -- the counts of a column, each offered what it adds, have risen
 offered_what_it_adds : (time top : ℕ) (ls : List Lane) → offered (map (λ l. grains l.supply.volume) ls) (map (λ l. l.count) ls) (additions time top ls) ≡ risen time top ls

@@ -1,10 +1,11 @@
--- Two lists of numbers compared as wholes. Assumes nothing.
-use Rattle.std.proofs.Common.{◌≡◌, ℕ, ◌*◌, Bool, true, false, eqb, List, [], ◌∷◌, map, length, get_or, Decides, IfSome, MatchOption, None, Some, Option, sym, refl, ap, ◌∙◌, arith, rules, length-append}
+-- Two lists of numbers compared as wholes and in halves. Assumes nothing.
+use borrow.Rule.Slice.PartMut.{mid_of}
+use Rattle.std.proofs.Common.{◌≡◌, ℕ, suc, ◌+◌, ◌-◌, ◌*◌, ◌≤◌, Bool, true, false, ◌&&◌, eqb, List, [], ◌∷◌, ◌++◌, map, length, take, drop, get_or, Decides, IfSome, MatchOption, None, Some, Option, sym, refl, ap, ap₂, ◌∙◌, arith, rules, length-append, length-drop, take_all}
 use Rattle.std.proofs.lemmas.Bool.{false≢true}
 use Rattle.std.proofs.lemmas.Bool.Decides.{Decides-eqb, same_from_decides}
 use Rattle.std.proofs.lemmas.Iterator.{YieldsList}
 use Rattle.std.proofs.lemmas.Iterator.Consumers.{YieldsList-at, YieldsList-end, YieldsList-turn}
-use Rattle.std.proofs.lemmas.List.{get_or_default, length-map}
+use Rattle.std.proofs.lemmas.List.{drop-map, get_or_default, length-map, take-map}
 use Rattle.std.proofs.lemmas.List.Elements.{same_from_all_zip}
 use Rattle.std.proofs.lemmas.Slice.Eq.{compares_Decides}
 use Rattle.std.specs.Iterator.{ComparesItemsByEq, Yields}
@@ -59,3 +60,48 @@ as_many_in_all fs =
 
 pub fitting_are_even : {B : Type 0} (volume : B → ℕ) (bs : List B) (fs : List Flow) → map volume bs ≡ volumes fs → length bs ≡ 2 * length fs
 fitting_are_even volume bs fs fits = sym (length-map bs volume) ∙ ap length fits ∙ as_many_in_all fs
+
+both_fail : (a b : Bool) → b ≡ false → (a && b) ≡ false
+both_fail true b e = e
+both_fail false b e = refl
+
+first_two : (a b c : Bool) → (a && (b && c)) ≡ ((a && b) && c)
+first_two true b c = refl
+first_two false b c = refl
+
+-- lists of different lengths are not the same
+not_as_many : (ms ns : List ℕ) → (length ms ≡ length ns → ⊥) → same ms ns ≡ false
+not_as_many [] [] differ = absurd (differ refl)
+not_as_many [] (n ∷ ns) differ = refl
+not_as_many (m ∷ ms) [] differ = refl
+not_as_many (m ∷ ms) (n ∷ ns) differ = both_fail (eqb m n) _ (not_as_many ms ns (λ e. differ (ap suc e)))
+
+-- the first list is made of two
+same_in_halves : (ms ls ns : List ℕ) → length ms ≤ length ns → same (ms ++ ls) ns ≡ (same ms (take (length ms) ns) && same ls (drop (length ms) ns))
+same_in_halves [] ls ns room = refl
+same_in_halves (m ∷ ms) ls [] room = absurd (omega arith)
+same_in_halves (m ∷ ms) ls (n ∷ ns) room = ap (λ b. eqb m n && b) (same_in_halves ms ls ns (omega arith)) ∙ first_two (eqb m n) _ _
+
+-- buckets against the volumes of so many flows: by their number, and then in two halves
+module _ {B : Type 0} (volume : B → ℕ) (fs : List Flow) (n : ℕ) (flows_are : n ≡ length fs) (bs : List B) where
+  pub yellow_half : length bs ≡ 2 * n → mid_of n (n + n - n) bs ≡ drop n bs
+  yellow_half even = take_all (n + n - n) (drop n bs) (omega (arith, length-drop n bs))
+
+  pub wrong_number : (length bs ≡ 2 * n → ⊥) → false ≡ same (volumes fs) (map volume bs)
+  wrong_number differ =
+      sym (not_as_many _ _ (λ e. differ (sym (length-map bs volume) ∙ sym e ∙ as_many_in_all fs ∙ ap (λ m. 2 * m) (sym flows_are))))
+
+  in_halves : (greens yellows : List B) → length bs ≡ 2 * n → greens ≡ take n bs → yellows ≡ drop n bs → same (volumes fs) (map volume bs) ≡ (same (column_volumes Green fs) (map volume greens) && same (column_volumes Yellow fs) (map volume yellows))
+  in_halves greens yellows even first second =
+      let many : length (column_volumes Green fs) ≡ n = length-map fs (λ f. grains f.green.volume) ∙ sym flows_are in
+      let front : take (length (column_volumes Green fs)) (map volume bs) ≡ map volume greens = ap (λ m. take m (map volume bs)) many ∙ take-map volume n bs ∙ ap (map volume) (sym first) in
+      let back : drop (length (column_volumes Green fs)) (map volume bs) ≡ map volume yellows = ap (λ m. drop m (map volume bs)) many ∙ drop-map volume n bs ∙ ap (map volume) (sym second) in
+      same_in_halves (column_volumes Green fs) (column_volumes Yellow fs) (map volume bs) (omega (arith, many, length-map bs volume)) ∙ ap₂ (λ xs ys. same (column_volumes Green fs) xs && same (column_volumes Yellow fs) ys) front back
+
+  pub both_fit : (greens yellows : List B) → length bs ≡ 2 * n → greens ≡ take n bs → yellows ≡ drop n bs → (r : Bool) → true ≡ same (column_volumes Green fs) (map volume greens) → r ≡ same (column_volumes Yellow fs) (map volume yellows) → r ≡ same (volumes fs) (map volume bs)
+  both_fit greens yellows even first second r fitting told =
+      told ∙ sym (in_halves greens yellows even first second ∙ ap (λ b. b && same (column_volumes Yellow fs) (map volume yellows)) (sym fitting))
+
+  pub greens_do_not : (greens yellows : List B) → length bs ≡ 2 * n → greens ≡ take n bs → yellows ≡ drop n bs → false ≡ same (column_volumes Green fs) (map volume greens) → false ≡ same (volumes fs) (map volume bs)
+  greens_do_not greens yellows even first second unfitting =
+      sym (in_halves greens yellows even first second ∙ ap (λ b. b && same (column_volumes Yellow fs) (map volume yellows)) (sym unfitting))

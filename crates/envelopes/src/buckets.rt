@@ -44,21 +44,28 @@ pub(crate) fn make_each<B: Bucket>(column: Column, draft: &Draft, buckets: &mut 
 }
 
 // Whether there are two buckets for each flow, with the flows' volumes: the green ones by rank, then the yellow ones.
+// Their number is looked at first, and each half by itself, cut to as many buckets as there are flows: one chain through
+// both halves takes about twice as long.
 pub(crate) fn fit<B: Bucket>(draft: &Draft, buckets: &[B]) -> bool
     ensures { result ≡ same_numbers (volumes_of (profile draft.now).flows) (map B.Bucket.volume buckets.now) }
 {
-    // a chain for each column: a function that hands one out would have to name its type
-    let greens = draft
+    let flows = draft.rows().len();
+    if buckets.len() != 2 * flows {
+        return false;
+    }
+    let greens = &buckets[..flows];
+    let yellows = &buckets[flows..flows + flows];
+    // two chains in each half: a function that hands one out would have to name its type
+    let green_volumes = draft
         .rows()
         .iter()
         .map(|row| GRAINS_PER_TOKEN * row.flow().green.volume);
-    let yellows = draft
+    let yellow_volumes = draft
         .rows()
         .iter()
         .map(|row| GRAINS_PER_TOKEN * row.flow().yellow.volume);
-    greens
-        .chain(yellows)
-        .eq(buckets.iter().map(|bucket| bucket.volume()))
+    green_volumes.eq(greens.iter().map(|bucket| bucket.volume()))
+        && yellow_volumes.eq(yellows.iter().map(|bucket| bucket.volume()))
 }
 
 // Makes all buckets anew, full.

@@ -67,11 +67,12 @@ pub(crate) fn flow_down<B: Bucket>(
     ensures added { take (length (profile draft.now).flows) (additions_of result) ≡ additions time.micros top (lanes column (profile draft.now).flows (overflows_of greens) (map B.Bucket.count buckets.now)) }
     ensures over { take (length (profile draft.now).flows) (overflows_of result) ≡ overflows time.micros top (lanes column (profile draft.now).flows (overflows_of greens) (map B.Bucket.count buckets.now)) }
 {
-    // by place, since `settled` is written from its end
+    // by place, since `settled` is written from its end; a zip with the buckets, gone through from its end, is slow
     let mut settled = [Settled::default(); MOST_FLOWS];
     let mut handed = top;
-    for (place, (row, bucket)) in draft.rows().iter().zip(buckets).enumerate().rev() {
-        let lane = column.lane(row.flow(), greens[place].overflow, bucket.count());
+    for (place, row) in draft.rows().iter().enumerate().rev() {
+        let count = buckets[place].count();
+        let lane = column.lane(row.flow(), greens[place].overflow, count);
         let here = lane.settle(time, handed);
         handed = if lane.withheld { 0 } else { here.overflow };
         settled[place] = here;

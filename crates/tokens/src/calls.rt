@@ -45,6 +45,14 @@ pub fn put<M: Meter>(meter: &mut M, call: Call) -> Result<Answer, Refusal>
     }
 }
 
+// Whether two calls told the same.
+#[tactic(auto, using(crate::proofs::Comparing::equal_decides))]
+fn same(a: Result<Answer, Refusal>, b: Result<Answer, Refusal>) -> bool
+    ensures { Decides result (told a ≡ told b) }
+{
+    a == b
+}
+
 /// Whether two meters, of any two forms, tell the same throughout when the same calls are put to them. Meters that
 /// are new at the same rate and burst always do: that is the law. And in every history of calls a meter keeps to
 /// its limits.
@@ -57,7 +65,7 @@ pub fn alike<M: Meter, N: Meter>(mut m: M, mut n: N, calls: &[Call]) -> bool
     for call in calls {
         let one = put(&mut m, *call);
         let other = put(&mut n, *call);
-        if one != other {
+        if !same(one, other) {
             return false;
         }
     }

@@ -1,7 +1,10 @@
 // The program `conform`: reads, calls, writes. What it prints is the library's report.
+ghost use Rattle.std.specs.Prelude.{◌≡◌, if◌then◌else◌, is_err};
+ghost use Rattle.std.specs.Process.{exit_status};
+
 use crate::arguments::{Arguments, read_arguments};
 use crate::report::{Ending, complaint, conform};
-use anyhow::{Context, bail};
+use anyhow::{Context, anyhow, bail};
 use std::env;
 use std::io::{Read, Write};
 use std::process::ExitCode;
@@ -18,7 +21,8 @@ fn arguments(rt: &HostRuntime) -> anyhow::Result<Arguments> {
         [rate, burst, form] => (rate.as_str(), burst.as_str(), form.as_str()),
         _ => bail!(USAGE),
     };
-    Ok(read_arguments(rate, burst, form)?)
+    // by its text, which cannot fail, as printing can
+    read_arguments(rate, burst, form).map_err(|misuse| anyhow!(misuse.text()))
 }
 
 fn print_report(rt: &HostRuntime) -> anyhow::Result<()> {
@@ -33,13 +37,21 @@ fn print_report(rt: &HostRuntime) -> anyhow::Result<()> {
     Ok(())
 }
 
-/// Runs the program; what goes wrong is told on standard error, and makes the exit code a failure.
-pub fn run(rt: &HostRuntime) -> ExitCode {
-    match print_report(rt) {
+/// Runs the program; what goes wrong is told on standard error, and then handed on.
+pub fn run(rt: &HostRuntime) -> anyhow::Result<()> {
+    let done = print_report(rt);
+    if let Err(e) = &done {
+        eprintln!(rt; "conform: {e}")?;
+    }
+    done
+}
+
+/// The exit code of a run: 0 where it is done, and 1 where something went wrong.
+pub fn exit_code(done: anyhow::Result<()>) -> ExitCode
+    ensures { exit_status result ≡ (if is_err done then 1 else 0) }
+{
+    match done {
         Ok(()) => ExitCode::SUCCESS,
-        Err(e) => {
-            let _ = eprintln!(rt; "conform: {e}");
-            ExitCode::FAILURE
-        }
+        Err(_) => ExitCode::FAILURE,
     }
 }

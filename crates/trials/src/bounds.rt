@@ -130,7 +130,8 @@ fn sequence<B: Bucket>(rt: &(impl Abort + AllocGlobal), seed: u64) -> Result<Clo
     let entries = run(rt.alloc(), &mut chance, &mut opened, asking)?;
     let flows = profile.flows.as_slice();
     Ok(Close {
-        of_flows: (1..=profile.highest())
+        // ranks of no flow too, to which no rate brings anything
+        of_flows: (1..=8)
             .map(|rank| Bound::of_flow(flows, rank).within_all(rt, entries.as_slice()))
             .fold(0, u64::saturating_add),
         of_all: Bound::of_all(flows).within_all(rt, entries.as_slice()),

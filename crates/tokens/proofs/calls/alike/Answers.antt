@@ -1,21 +1,20 @@
 use Rattle.std.proofs.Common.{sym, refl, ◌∙◌}
-use Rattle.std.proofs.lemmas.Bool.{false≢true, not-true, not-false}
+use Rattle.std.proofs.lemmas.Bool.{false≢true}
 use Rattle.tokens.proofs.Bounds.{keeps_to_limits}
-use Rattle.tokens.proofs.Comparing.{alike_are_equal, equal_tell_alike}
 use Rattle.tokens.proofs.Forms.{answer_alike, differ, same_all, same_more}
 use Rattle.tokens.proofs.calls.alike.Goals as goal
 
-pub returns-then-ne : goal.returns-then-ne
-returns-then-ne g c =
+pub returns-then-not-same : goal.returns-then-not-same
+returns-then-not-same g c =
     record {
-      value = differ _ _ _ _ _ c.loop-call-test.true _ _ _ _ _ _ c.loop-call.invariant c.put-one.ensures.kept c.put-other.ensures.kept (λ told. false≢true (sym (not-true _ (sym c.ne.ensures ∙ c.if-ne.true)) ∙ alike_are_equal _ _ told));
+      value = differ _ _ _ _ _ c.loop-call-test.true _ _ _ _ _ _ c.loop-call.invariant c.put-one.ensures.kept c.put-other.ensures.kept (λ told. false≢true (sym c.if-not-same.true ∙ c.same.ensures.1 told));
       law = answer_alike _ _;
       limits = keeps_to_limits _;
     }
 
 pub loop-call-preserved : goal.loop-call-preserved
 loop-call-preserved g c =
-    same_more _ _ _ _ _ c.loop-call-test.true _ _ _ _ _ _ c.loop-call.invariant c.put-one.ensures.kept c.put-other.ensures.kept (equal_tell_alike _ _ (not-false _ (sym c.ne.ensures ∙ c.if-ne.false)))
+    same_more _ _ _ _ _ c.loop-call-test.true _ _ _ _ _ _ c.loop-call.invariant c.put-one.ensures.kept c.put-other.ensures.kept (c.same.ensures.0 c.if-not-same.false)
 
 pub returns : goal.returns
 returns g c =
