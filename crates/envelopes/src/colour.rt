@@ -1,5 +1,5 @@
 // A colour, and a request for one.
-ghost use Rattle.std.specs.Prelude.{Some};
+ghost use Rattle.std.specs.Prelude.{◌≡◌, Some};
 ghost use Rattle.envelopes.specs.Colours.{colour_name};
 
 use std::fmt;
@@ -12,15 +12,25 @@ pub enum Colour {
     Red,
 }
 
+impl Colour {
+    // Beside `Display`, since this cannot fail.
+    /// Its name.
+    pub fn name(self) -> &'static str
+        ensures { result.now ≡ colour_name self }
+    {
+        match self {
+            Colour::Green => "Green",
+            Colour::Yellow => "Yellow",
+            Colour::Red => "Red",
+        }
+    }
+}
+
 impl fmt::Display for Colour {
     ghost output = { λ colour. Some (colour_name colour) };
 
     fn fmt<W: fmt::Write>(&self, f: &mut fmt::Formatter<W>) -> fmt::Result {
-        f.pad(match self {
-            Colour::Green => "Green",
-            Colour::Yellow => "Yellow",
-            Colour::Red => "Red",
-        })
+        f.pad(self.name())
     }
 }
 

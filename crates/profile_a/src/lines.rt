@@ -22,8 +22,8 @@ pub(crate) fn write_answer(
     ensures goes { GoesOn result (told answer) }
 {
     write!(out, "{number} {} {} ", request.moment, request.rank)?;
-    let colour = answer?;
-    writeln!(out, "{colour}")?;
+    let name = answer?.name();
+    writeln!(out, "{name}")?;
     Ok(())
 }
 

@@ -6,7 +6,7 @@ use std::fmt::Write;
 use std::process::Abort;
 use std::test::Fail;
 use tokens::calls::{Answer, Call};
-use traces::arguments::{Arguments, Form, read_arguments};
+use traces::arguments::{Arguments, Form, Misuse, read_arguments};
 use traces::report::{Ending, complaint, conform};
 
 const FORMS: [Form; 3] = [Form::Token, Form::Schedule, Form::Leaky];
@@ -99,6 +99,12 @@ fn lines_that_are_no_packets(rt: HostRuntime) -> Result<(), Fail> {
     FIGURE.expect(&rt, b"\xff\xfe 5\n", "", Ending::NotTwoNumbers(1))
 }
 
+// What the user is told of a wrong word.
+fn text_of(rate: &str, burst: &str, form: &str) -> Option<&'static str> {
+    read_arguments(rate, burst, form).err().map(Misuse::text)
+}
+
+// The same, as it prints.
 fn misuse(heap: Global, rate: &str, burst: &str, form: &str) -> Result<Option<String>, AllocError> {
     read_arguments(rate, burst, form)
         .err()
@@ -114,12 +120,24 @@ fn what_the_user_is_told(rt: HostRuntime) -> Result<(), Fail> {
         "line 12 is not two numbers, TOKENS up to 4294967295 and MOMENT, with one space between"
     );
     assert_eq!(rt;
+        text_of("x", "1", "token"),
+        Some("RATE is not a whole number")
+    );
+    assert_eq!(rt;
         misuse(rt.alloc(), "x", "1", "token")?.as_deref(),
         Some("RATE is not a whole number")
     );
     assert_eq!(rt;
+        text_of("1", "", "token"),
+        Some("BURST is not a whole number")
+    );
+    assert_eq!(rt;
         misuse(rt.alloc(), "1", "", "token")?.as_deref(),
         Some("BURST is not a whole number")
+    );
+    assert_eq!(rt;
+        text_of("1", "1", "tokens"),
+        Some("FORM is none of token, schedule and leaky")
     );
     assert_eq!(rt;
         misuse(rt.alloc(), "1", "1", "tokens")?.as_deref(),
